@@ -1,0 +1,3 @@
+pub mod Shown
+pub mod Makes
+pub mod Emptying

@@ -1,0 +1,3 @@
+mod Scan
+mod Table
+mod Next

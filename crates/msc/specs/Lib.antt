@@ -1,0 +1,14 @@
+pub mod Rows
+pub mod Spelling
+pub mod Tokens
+pub mod Doc
+pub mod Shortest
+pub mod Sound
+pub mod Stored
+pub mod Standard
+pub mod BuiltIn
+pub mod Events
+pub mod Listing
+pub mod Order
+pub mod Meaning
+pub mod Choice

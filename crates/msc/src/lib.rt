@@ -1,0 +1,19 @@
+// Documents: procedures drawn as message sequence charts joined in a graph.
+pub mod built_in;
+pub mod chart;
+pub mod copies;
+pub mod document;
+pub mod event;
+pub mod label;
+pub mod list;
+pub mod lists;
+pub mod look;
+pub mod name;
+pub mod names;
+pub mod rows;
+pub mod search;
+pub mod standard;
+pub mod symbol;
+pub mod table;
+pub mod tables;
+pub mod words;

@@ -1,0 +1,5 @@
+pub mod Tallies
+pub mod Seeks
+pub mod Windows
+pub mod Arrays
+pub mod Start

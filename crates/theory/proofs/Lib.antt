@@ -1,0 +1,17 @@
+pub mod Listings
+pub mod Lists
+pub mod Projections
+pub mod Queues
+pub mod Steps
+pub mod Longer
+pub mod Idle
+pub mod Progress
+pub mod Complete
+pub mod Plays
+pub mod Own
+pub mod Paths
+pub mod Places
+pub mod Ends
+pub mod PlaysOut
+pub mod PlaysLonger
+pub mod Counting
