@@ -4,18 +4,15 @@ use mathlib.Core.List.{List, _∷_}
 use Prim.Native.Nat.{ℕ, _≤_}
 use lib.ListN.{length}
 use Rattle.std.specs.Slices.{Shuffled}
-use Rattle.std.proofs.shelf.Tests.{eq-eqb, ne-eqb}
+use Rattle.std.proofs.shelf.Tests.{ne-eqb}
 use Rattle.std.specs.declared.result.Result.the-variants.{Ok, Err}
-use Rattle.channel.specs.declared.Refusal.the-variants.{Full, Empty}
+use Rattle.channel.specs.declared.Refusal.the-variants.{Empty}
 use Rattle.bag.specs.declared.Stamped.{Stamped}
 use Rattle.bag.specs.Held.{shownAt}
 use Rattle.bag.specs.Calls.{Put, Take}
 use Rattle.bag.proofs.Shown.{shown-none}
 
 module _ {B : Type 0} (sound : B → Type 0) (held : B → List Stamped) (space : B → ℕ) (b b′ : B) where
-  pub put-full : (x : Stamped) → length (held b) ≡ space b → sound b′ → space b′ ≡ space b → held b′ ≡ held b → Put sound held space b b′ x (Err Full)
-  put-full x e s l h = record { stays = s; limit = l; answer = rw (eq-eqb (length (held b)) (space b) e) refl; after = h }
-
   pub put-done : (x : Stamped) → (length (held b) ≡ space b → ⊥) → sound b′ → space b′ ≡ space b → Shuffled (x ∷ held b) (held b′) → Put sound held space b b′ x (Ok tt)
   put-done x ne s l m = record { stays = s; limit = l; answer = rw (ne-eqb (length (held b)) (space b) ne) refl; after = m }
 

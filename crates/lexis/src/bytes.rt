@@ -12,7 +12,13 @@ fn separates(c: Class) -> bool
 {
     match c {
         Class::Separator => true,
-        Class::Letter | Class::Inner | Class::Open | Class::Close | Class::Colon | Class::Semi | Class::Illegal => false,
+        Class::Letter
+        | Class::Inner
+        | Class::Open
+        | Class::Close
+        | Class::Colon
+        | Class::Semi
+        | Class::Illegal => false,
     }
 }
 
@@ -27,7 +33,12 @@ fn in_words(c: Class) -> bool
 {
     match c {
         Class::Letter | Class::Inner => true,
-        Class::Separator | Class::Open | Class::Close | Class::Colon | Class::Semi | Class::Illegal => false,
+        Class::Separator
+        | Class::Open
+        | Class::Close
+        | Class::Colon
+        | Class::Semi
+        | Class::Illegal => false,
     }
 }
 

@@ -17,6 +17,7 @@ use crate::keywords::keyword_at;
 use crate::reader::Reader;
 use crate::refusal::Refusal;
 use crate::token::Token;
+use msc::search::NameNamed;
 use msc::search::find;
 use msc::words::Words;
 
@@ -33,13 +34,6 @@ impl<'a> Reader<'a> {
             at: 0,
             place: 0,
         }
-    }
-
-    // The first byte of the token that was read last.
-    pub fn place(&self) -> usize
-        ensures { λ r. ⌜ r ≡ now (self .entry) .place ⌝ }
-    {
-        self.place
     }
 
     // Goes on to the first byte that is no separator.

@@ -1,6 +1,7 @@
 // Tokens of a kind that a form asks for.
 ghost use mathlib.Core.Path.{_≡_};
 ghost use Rattle.msc.specs.Rows.{nameOf};
+ghost use Rattle.msc.specs.Tokens.{sign-byte};
 ghost use Rattle.lexis.specs.Lexing.{isKey, isSign, isEnd, nameAt, wordAt, signAt, endAt};
 ghost use Rattle.lexis.specs.Readers.{wordsOf, meant, stepOf, from};
 use crate::reader::Reader;
@@ -8,10 +9,20 @@ use crate::refusal::Refusal;
 use crate::token::Token;
 use msc::name::Name;
 use msc::symbol::Symbol;
-use msc::symbol::SymbolPartialEq;
 use msc::words::Keyword;
-use msc::words::KeywordPartialEq;
 use msc::words::Words;
+
+// The byte of a symbol.
+fn byte(x: Symbol) -> u8
+    ensures { λ r. ⌜ r ≡ sign-byte x ⌝ }
+{
+    match x {
+        Symbol::Open => b'(',
+        Symbol::Close => b')',
+        Symbol::Colon => b':',
+        Symbol::Semi => b';',
+    }
+}
 
 impl<'a> Token<'a> {
     // Whether this is the keyword k.
@@ -19,7 +30,7 @@ impl<'a> Token<'a> {
         ensures { λ r. ⌜ r ≡ isKey k (meant (self .entry)) ⌝ }
     {
         match self {
-            Token::Word(j) => j == k,
+            Token::Word(j) => j as u8 == k as u8,
             Token::Name(_) | Token::Sign(_) | Token::End => false,
         }
     }
@@ -29,7 +40,7 @@ impl<'a> Token<'a> {
         ensures { λ r. ⌜ r ≡ isSign x (meant (self .entry)) ⌝ }
     {
         match self {
-            Token::Sign(y) => y == x,
+            Token::Sign(y) => byte(y) == byte(x),
             Token::Name(_) | Token::Word(_) | Token::End => false,
         }
     }
@@ -45,6 +56,13 @@ impl<'a> Token<'a> {
 }
 
 impl<'a> Reader<'a> {
+    // The first byte of the token that was read last.
+    pub fn place(&self) -> usize
+        ensures { λ r. ⌜ r ≡ now (self .entry) .place ⌝ }
+    {
+        self.place
+    }
+
     // A name; its place is the reader's.
     pub fn name(&mut self, words: &Words) -> Result<Name, Refusal>
         ensures { λ r. ⌜ stepOf (λ n. (nameOf n, now (self .exit) .place)) r (now (self .exit)) ≡ from (nameAt (wordsOf (now (words .entry)))) (now (self .entry)) ⌝ }

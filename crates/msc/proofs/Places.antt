@@ -1,4 +1,4 @@
--- The search for a word in a list of names.
+-- The search for a word among rows that have names.
 use mathlib.Core.Path.{_≡_, refl, sym, ap, subst, _∙_}
 use mathlib.Core.Bool.{Bool, true, false, cond, _||_}
 use mathlib.Core.List.{List, [], _∷_, map}
@@ -13,18 +13,16 @@ use Rattle.std.specs.declared.option.Option.the-variants.{Some, None}
 use Rattle.std.proofs.shelf.Lists.{at-drop-more}
 use Rattle.std.proofs.shelf.Equals.{sameBytes-decides}
 use Rattle.std.proofs.shelf.Ways.{same-from-decides}
-use Rattle.msc.specs.Rows.{nameOf}
 use Rattle.msc.specs.Spelling.{placeFrom, has}
-use Rattle.msc.specs.declared.name.Name.{Name}
 
--- the name at i is the word, which answers i, or the search goes on behind it
-pub tried : (w : List ℕ) (names : List Name) (i : ℕ) (n : Name) → i < length names → n ≡ getD names i n → (b : List ℕ) → b ≡ nameOf n → (r : Bool) → Decides r (w ≡ b)
-    → placeFrom i (map nameOf (drop i names)) w ≡ cond r (Some i) (placeFrom (i + 1) (map nameOf (drop (i + 1) names)) w)
-tried w names i n h is b e r m =
-    at-drop-more (λ (xs : List Name). placeFrom i (map nameOf xs) w) names i n h
-    ∙ ap (λ (x : Name). cond (sameBytes w (nameOf x)) (Some i) (placeFrom (suc i) (map nameOf (drop (i + 1) names)) w)) (sym is)
-    ∙ ap (λ t. cond t (Some i) (placeFrom (suc i) (map nameOf (drop (i + 1) names)) w)) (same-from-decides (sameBytes w (nameOf n)) r (sameBytes-decides w (nameOf n)) (subst (λ y. Decides r (w ≡ y)) e m))
-    ∙ ap (λ k. cond r (Some i) (placeFrom k (map nameOf (drop (i + 1) names)) w)) (sym (add-one i))
+-- the row at i is called w, which answers i, or the search goes on behind it
+pub tried : {T : Type 0} (called : T → List ℕ) (w : List ℕ) (names : List T) (i : ℕ) (n : T) → i < length names → n ≡ getD names i n → (b : List ℕ) → b ≡ called n → (r : Bool) → Decides r (w ≡ b)
+    → placeFrom i (map called (drop i names)) w ≡ cond r (Some i) (placeFrom (i + 1) (map called (drop (i + 1) names)) w)
+tried {T} called w names i n h is b e r m =
+    at-drop-more (λ (xs : List T). placeFrom i (map called xs) w) names i n h
+    ∙ ap (λ (x : T). cond (sameBytes w (called x)) (Some i) (placeFrom (suc i) (map called (drop (i + 1) names)) w)) (sym is)
+    ∙ ap (λ t. cond t (Some i) (placeFrom (suc i) (map called (drop (i + 1) names)) w)) (same-from-decides (sameBytes w (called n)) r (sameBytes-decides w (called n)) (subst (λ y. Decides r (w ≡ y)) e m))
+    ∙ ap (λ k. cond r (Some i) (placeFrom k (map called (drop (i + 1) names)) w)) (sym (add-one i))
 
 -- a list has a word where the word has a place in it
 found-here : (k : ℕ) (b t : Bool) (o : Option ℕ) → isSome o ≡ t → isSome (cond b (Some k) o) ≡ b || t

@@ -1,5 +1,5 @@
 // An event of a chart, by numbers: a message goes out or comes in, or an action is done.
-#[derive(Clone, Copy, PartialEq, Eq, Debug)]
+#[derive(Clone, Copy)]
 pub enum Event {
     // a message (by its name's number) goes out to an instance
     Out { name: u8, to: u8 },

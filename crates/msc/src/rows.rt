@@ -22,7 +22,7 @@ impl<T: Copy, const N: usize> Table<T, N> {
     pub fn len(&self) -> usize
         ensures { λ r. ⌜ r ≡ length (itemsOf (now (self .entry))) ⌝ }
     {
-        self.len
+        self.as_slice().len()
     }
 
     pub fn as_slice(&self) -> &[T]

@@ -1,5 +1,5 @@
 // The four symbols of the language: ( ) : ;
-#[derive(Clone, Copy, PartialEq, Eq, Debug)]
+#[derive(Clone, Copy)]
 pub enum Symbol {
     Open,
     Close,

@@ -6,7 +6,7 @@ ghost use Rattle.msc.specs.Spelling.{isVocabulary, spellingsOf};
 use crate::name::Name;
 
 // What a reserved word stands for, whatever its spelling.
-#[derive(Clone, Copy, PartialEq, Eq, Debug)]
+#[derive(Clone, Copy)]
 pub enum Keyword {
     Mscdocument,
     Endmscdocument,

@@ -61,9 +61,6 @@ not-full n m e h =
     let z : _≡_ {A = ℕ} 0 1 = cc in
     omega arith
 
-pub same-shown : (xs : List Stamped) (i : ℕ) (x y : Stamped) → shownAt xs i ≡ Ok x → _≡_ {A = Result Stamped Refusal} (Ok y) (shownAt xs i) → x ≡ y
-same-shown xs i x y p q = cc
-
 by-same : (r a b from to f t : ℕ) → (samePair from to f t ≡ true → r ≡ a) → (samePair from to f t ≡ false → r ≡ b) → r ≡ cond (samePair from to f t) a b
 by-same r a b from to f t here there =
     ⊎-elim

@@ -80,6 +80,8 @@ module _ (due many : Cells) (xs : List Stamped) (kept : Kept due many xs) (few :
   pub first-none : (f t : ℕ) → isPair f t ≡ true → tally f t (due f t) xs ≡ 0 → firstOf (waitsFrom due many xs f t) ≡ Err Empty
   first-none f t p z = rw (p, none-due f t p z) refl
 
+  -- the letter that has the due stamp is its pair's oldest: the stamp stands once, so that no other
+  -- letter can have it
   pub first-head : (f t i : ℕ) (x : Stamped) → isPair f t ≡ true → shownAt xs i ≡ Ok x → carries f t (due f t) x ≡ true → firstOf (waitsFrom due many xs f t) ≡ Ok (x .letter)
   first-head f t i x p e here =
       let s = kept .small f t p in
@@ -168,6 +170,9 @@ module _ (due many : Cells) (xs : List Stamped) (kept : Kept due many xs) (few :
     pub waits-added : waitsFrom due many′ ys ≡ added (waitsFrom due many xs) from to l
     waits-added = fun-ext (λ f. fun-ext (λ t. row-added f t))
 
+    -- The new letter has the stamp that comes `many` after the due one. So of its pair the stamps up to
+    -- and with that one now stand once, since `many` is far below 2 ^ 32 and no stamp comes round
+    -- again; of every other pair and stamp nothing changes.
     pub kept-added : Kept due many′ ys
     kept-added = record {
       small = kept .small;
@@ -321,6 +326,8 @@ module _ (due many : Cells) (xs : List Stamped) (kept : Kept due many xs) (few :
     waits-less = fun-ext (λ f. fun-ext (λ t.
         by-cell (waitsFrom due′ many′ ys f t) (restOf (waitsFrom due many xs f t)) (waitsFrom due many xs f t) from to f t pair (less-here f t) (less-there f t) (less-none f t)))
 
+    -- Counted from the new due stamp, k is what k + 1 was, and there the letter that goes does not
+    -- count. The last k comes round to the old due stamp, which stood once and now stands nowhere.
     marks-here : (f t k : ℕ) → isPair f t ≡ true → k < 4294967296 → samePair from to f t ≡ true → tally f t (stampAt due′ f t k) ys ≡ cond (ltb k (many f t - 1)) 1 0
     marks-here f t k p lt e =
         let q = samePair-true from to f t e in
@@ -352,6 +359,8 @@ module _ (due many : Cells) (xs : List Stamped) (kept : Kept due many xs) (few :
         let a : 0 + tally f t (stampAt due f t k) ys ≡ tally f t (stampAt due f t k) xs = rw no at (parts f t (stampAt due f t k)) in
         ap (λ v. tally f t v ys) (due-there f t k p e) ∙ sym (zero-add (tally f t (stampAt due f t k) ys)) ∙ a ∙ kept .marks f t k p lt
 
+    -- Of the pair that a letter is taken from, the window of stamps moves on by one; of every other
+    -- pair nothing changes.
     pub kept-less : Kept due′ many′ ys
     kept-less = record {
       small = λ f t p.

@@ -8,9 +8,8 @@ use lib.ListN.{length, length-append}
 use Rattle.std.specs.declared.result.Result.{Result}
 use Rattle.std.specs.declared.result.Result.the-variants.{Ok, Err}
 use Rattle.std.proofs.shelf.Sorted.{length-shuffled}
-use Rattle.std.proofs.shelf.Tests.{eq-eqb, ne-eqb, lt-ltb, le-ltb}
+use Rattle.std.proofs.shelf.Tests.{ne-eqb, lt-ltb, le-ltb}
 use Rattle.channel.specs.declared.Refusal.{Refusal}
-use Rattle.channel.specs.declared.Refusal.the-variants.{Full}
 use Rattle.bag.specs.declared.Stamped.{Stamped}
 use Rattle.bag.specs.declared.Bag.{Ghosts}
 use Rattle.bag.specs.Held.{putOf, shownAt}
@@ -66,9 +65,6 @@ module _ {A B : Type 0} (a : Ghosts A) (b : Ghosts B) (t : Twin A B) (s : Sound 
 
     pub placed-second : (g : B) (r : Result (Unit {0}) Refusal) → firstTakes a b t ≡ false → Put (b .sound) (b .held) (b .space) (t .second) g x r → Placed a b t (withSecond g) x r
     placed-second g r e p = rw (ne-eqb (length (heldBy a b t)) (spaceOf a b t) space, e) (refl, p)
-
-  pub placed-full : (x : Stamped) → length (heldBy a b t) ≡ spaceOf a b t → Placed a b t t x (Err Full)
-  placed-full x full = rw (eq-eqb (length (heldBy a b t)) (spaceOf a b t) full) refl
 
   pub take-first : (f : A) (i : ℕ) (r : Result Stamped Refusal) → i < length (a .held (t .first))
       → Take (a .sound) (a .held) (a .space) (t .first) f i r → Take (Sound a b) (heldBy a b) (spaceOf a b) t (withFirst f) i r

@@ -6,7 +6,7 @@ use Rattle.std.proofs.shelf.Lists.{take-at, places}
 use Rattle.msc.proofs.name.Name.of.Needs as need
 
 pub ghost-result : need.ghost-result
-ghost-result c = (c .if-n-gt16 .left, (search (needs, places), tt))
+ghost-result c = (omega arith, (search (needs, places), tt))
 
 pub returns : need.returns
 returns c = take-at (c .copy-from-slice .last .self) _ _ (ap length (c .copy-from-slice .ensures .after)) ∙ c .copy-from-slice .ensures .after

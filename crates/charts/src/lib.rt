@@ -1,0 +1,4 @@
+// Reads a text's instances and charts into a draft.
+mod blocks;
+pub mod charts;
+pub mod instances;

@@ -1,0 +1,17 @@
+pub mod Names
+pub mod Steps
+pub mod Cuts
+pub mod Takes
+pub mod Facts
+pub mod Goods
+pub mod Shortest
+pub mod Own
+pub mod Moves
+pub mod Tables
+pub mod ReadsCharts
+pub mod Alternatives
+pub mod ReadsGraph
+pub mod FoundCharts
+pub mod FoundGraph
+pub mod Found
+pub mod Spots

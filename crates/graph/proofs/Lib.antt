@@ -1,0 +1,3 @@
+mod Each
+mod Repeat
+pub mod Rows

@@ -1,0 +1,6 @@
+use Rattle.order.specs.Meant.{meant}
+use Rattle.judge.proofs.look.charts.Needs as need
+
+pub returns : need.returns
+unfolding meant
+returns c = c .charts .ensures

@@ -1,0 +1,4 @@
+pub mod Rules
+pub mod Checks
+pub mod Verdict
+pub mod Results

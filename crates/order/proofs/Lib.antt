@@ -1,0 +1,9 @@
+pub mod Scanned
+pub mod Members
+pub mod Drawn
+pub mod Greedy
+pub mod Tallies
+pub mod Fronts
+pub mod Walks
+pub mod Limits
+pub mod Bounds

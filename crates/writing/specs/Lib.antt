@@ -1,0 +1,4 @@
+pub mod Fit
+pub mod Pens
+pub mod Walks
+pub mod Writing
