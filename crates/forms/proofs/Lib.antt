@@ -15,3 +15,4 @@ pub mod FoundCharts
 pub mod FoundGraph
 pub mod Found
 pub mod Spots
+pub mod Laws

@@ -1,3 +1,2 @@
 mod Each
-mod Repeat
 pub mod Rows

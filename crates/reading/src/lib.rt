@@ -1,5 +1,5 @@
 // Reads a text into a document, or refuses it by number and spot.
-pub mod link;
+mod link;
 pub mod read;
-pub mod tail;
-pub mod whole;
+mod tail;
+mod whole;

@@ -1,7 +1,13 @@
 // Writes a document.
+ghost use mathlib.Core.List.{List};
 ghost use mathlib.Core.Path.{_≡_};
-ghost use Rattle.msc.specs.Shortest.{docTokens};
+ghost use Prim.Native.Nat.{ℕ, _≤_};
+ghost use lib.ListN.{length};
+ghost use Rattle.std.specs.declared.result.Result.the-variants.{Ok};
+ghost use Rattle.msc.specs.Shortest.{docTokens, textOf};
 ghost use Rattle.msc.specs.Stored.{docOf};
+ghost use Rattle.forms.specs.Reading.{readOf};
+ghost use Rattle.forms.specs.Writes.{Writes};
 ghost use Rattle.writing.specs.Pens.{penned, pageOf};
 ghost use Rattle.writing.specs.Writing.{writeOf, afterWrite};
 use crate::pen::Pen;
@@ -28,10 +34,12 @@ impl Pen {
 }
 
 // The shortest text of a document at the front of the output, and its length; where the output is shorter,
-// the length that it needs, and the output as it was.
+// the length that it needs, and the output as it was. The text reads back as the document, and no writing of it is shorter.
 pub fn write(document: &Document, out: &mut [u8]) -> Result<usize, Refusal>
     ensures answer { λ r. ⌜ r ≡ writeOf (docOf (now (document .entry) .tables)) (now (out .entry)) ⌝ }
     ensures output { λ _. ⌜ now (out .exit) ≡ afterWrite (docOf (now (document .entry) .tables)) (now (out .entry)) ⌝ }
+    ensures back { λ _. ⌜ readOf (docOf (now (document .entry) .tables) .words) (textOf (docOf (now (document .entry) .tables))) ≡ Ok (docOf (now (document .entry) .tables)) ⌝ }
+    ensures shortest { λ _. ⌜ ((text : List ℕ) → Writes text (docOf (now (document .entry) .tables)) → length (textOf (docOf (now (document .entry) .tables))) ≤ length text) ⌝ }
 {
     let mut pen = Pen::new();
     pen.document(document);

@@ -8,7 +8,7 @@ use Rattle.lexis.specs.Steps.{repeat}
 use Rattle.forms.specs.Drafts.{Mention}
 use Rattle.forms.specs.Reading.{altTurn}
 use Rattle.graph.specs.Lines.{mentionOf, mentionsOf}
-use Rattle.graph.proofs.Repeat.{more, ends, refuses, runs-out}
+use Rattle.draft.proofs.Repeat.{more, ends, refuses, runs-out}
 use Rattle.graph.proofs.grammar.alts.Needs as need
 
 pub returns-in-Break-alt-turn : need.returns-in-Break-alt-turn

@@ -12,7 +12,7 @@ use Rattle.forms.specs.Drafts as drafts
 use Rattle.forms.specs.Reading.{lineTurn, linesAt}
 use Rattle.graph.specs.Lines.{lineOf}
 use Rattle.graph.specs.declared.line.Line.{Line}
-use Rattle.graph.proofs.Repeat.{more, ends, refuses, runs-out}
+use Rattle.draft.proofs.Repeat.{more, ends, refuses, runs-out}
 use Rattle.graph.proofs.grammar.lines.Needs as need
 
 -- where the lines began with none, and the rows are those of the table

@@ -7,6 +7,7 @@ use Rattle.msc.specs.Rows.{itemsOf}
 use Rattle.msc.specs.Shortest.{textOf, docTokens}
 use Rattle.msc.specs.Stored.{docOf}
 use Rattle.msc.specs.declared.document.Document.{Document}
+use Rattle.forms.proofs.Laws.{back, is-shortest}
 use Rattle.writing.specs.Pens.{Page, penned, blank, pageOf}
 use Rattle.writing.specs.declared.pen.Pen.{Pen}
 use Rattle.writing.proofs.Whole.{whole, refused, written}
@@ -23,10 +24,12 @@ pub returns-then-needed-out : need.returns-then-needed-out
 returns-then-needed-out c =
     let is = text-is (c .args .document .now) (c .new-pen .result) (c .document .last .self) (c .text-text .result .now) (c .new-pen .ensures) (c .document .ensures) (c .text-text .ensures) in
     let both = refused (docOf (c .args .document .now .tables)) (c .args .out .now) (c .text-text .result .now) is (c .if-needed-out .taken) in
-    record { answer = both .0; output = both .1 }
+    let d = c .args .document .now in
+    record { answer = both .0; output = both .1; back = back (docOf (d .tables)) (d .sound); shortest = is-shortest (docOf (d .tables)) (d .sound) .1 }
 
 pub returns : need.returns
 returns c =
     let is = text-is (c .args .document .now) (c .new-pen .result) (c .document .last .self) (c .text-text .result .now) (c .new-pen .ensures) (c .document .ensures) (c .text-text .ensures) in
     let both = written (docOf (c .args .document .now .tables)) (c .args .out .now) (c .text-text .result .now) (c .copy-from-slice .last .self) is (c .copy-from-slice .ensures .after) (c .if-needed-out .left) in
-    record { answer = both .0; output = both .1 }
+    let d = c .args .document .now in
+    record { answer = both .0; output = both .1; back = back (docOf (d .tables)) (d .sound); shortest = is-shortest (docOf (d .tables)) (d .sound) .1 }
