@@ -27,7 +27,7 @@ pub const LONGEST: usize = 16;
 impl<'a> Reader<'a> {
     // A reader at the start of a text.
     pub fn new(text: &'a [u8]) -> Reader<'a>
-        ensures { λ r. ⌜ r .text .now ≡ now (text .entry) ⌝ ∗ ⌜ r .at ≡ 0 ⌝ }
+        ensures { λ r. ⌜ r .text .now ≡ now (text .entry) ⌝ ∗ ⌜ r .at ≡ 0 ⌝ ∗ ⌜ r .place ≡ 0 ⌝ }
     {
         Reader {
             text,
