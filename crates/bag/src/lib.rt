@@ -1,4 +1,6 @@
 // Stamped letters, and what a bag of them means.
+#![tactic(auto)]
+
 ghost use Rattle.std.specs.Prelude.{◌≡◌, ℕ, ◌≤◌, List, length};
 ghost use Rattle.bag.specs.declared.Stamped.{Stamped};
 ghost use Rattle.bag.specs.Held.{shown_at};
@@ -56,7 +58,7 @@ pub trait Bag {
 
 // Takes letters out of the bag until it holds none.
 pub fn empty_bag<B: Bag>(bag: &mut B)
-    ensures { sound bag.old → Emptied sound held space bag.old bag.new }
+    ensures { B.sound bag.old → Emptied B.sound B.held B.space bag.old bag.new }
 {
     let n = bag.count();
     for _done in 0..n {

@@ -1,4 +1,3 @@
-pub mod Letters
 pub mod Pairs
 pub mod Totals
 pub mod Makes

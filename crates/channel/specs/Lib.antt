@@ -1,3 +1,4 @@
 pub mod Refusals
+pub mod Same
 pub mod Waits
 pub mod Calls

@@ -1,12 +1,14 @@
 // Letters, and what a channel of letters means.
+#![tactic(auto)]
+
 ghost use Rattle.std.specs.Prelude.{◌≡◌, ℕ, ◌≤◌, false, List, [], Decides};
 ghost use Rattle.channel.specs.declared.Letter.{Letter};
 ghost use Rattle.channel.specs.Refusals.{number_of};
+ghost use Rattle.channel.specs.Same.{same_letters};
 ghost use Rattle.channel.specs.Waits.{is_pair, total, head_of};
 ghost use Rattle.channel.specs.Calls.{Put, Take};
 ghost use Rattle.std.specs.Cmp.Rules.{comparing};
 ghost use Rattle.std.proofs.Common.{rules};
-ghost use Rattle.std.specs.Cmp as Keys;
 
 // A letter is the header of one message on its way: the label and the place of the chart's copy
 // that it belongs to, the message name's number, and the sender's turns, one for each instance.
@@ -30,11 +32,14 @@ impl Letter {
 
 // Letters are equal if all their fields are.
 impl PartialEq for Letter {
-    ghost equals = { λ a b r. Decides r (a ≡ b) };
+    ghost eq = { same_letters };
 
-    ghost laws = { Keys.partial_equiv_from_equiv (Prim.search (comparing, rules)) };
+    ghost laws = { Prim.search (comparing, rules) };
 
-    fn eq(&self, other: &Letter) -> bool {
+    fn eq(&self, other: &Letter) -> bool
+        ensures value { result ≡ same_letters self.now other.now }
+        ensures decides { Decides result (self.now ≡ other.now) }
+    {
         if self.label != other.label || self.name != other.name || self.place != other.place {
             return false;
         }

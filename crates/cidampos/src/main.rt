@@ -1,4 +1,6 @@
 // Reads, writes and judges procedures drawn as message sequence charts.
+#![tactic(auto)]
+
 mod report;
 mod spot;
 
@@ -26,7 +28,7 @@ FILE may be - for standard input. A refusal is the last line of standard output,
 standard error.";
 
 fn input(rt: &HostRuntime, name: &str) -> io::Result<Vec<u8>> {
-    if name.as_bytes() == b"-" {
+    if name == "-" {
         let mut text = Vec::new(rt.alloc());
         rt.stdin().read_to_end(&mut text)?;
         Ok(text)
@@ -102,7 +104,7 @@ fn with_file(rt: &HostRuntime, command: &str, name: &str) -> Result<(), Failed> 
     let text = input(rt, name)?;
     match read(&text, &Words::standard()) {
         Ok(document) => {
-            if command.as_bytes() == b"write" {
+            if command == "write" {
                 print_text(rt, &document)
             } else {
                 judge_document(rt, &document)
@@ -118,14 +120,14 @@ fn run(rt: &HostRuntime) -> Result<(), Failed> {
     let Some(command) = words.next() else {
         return built_in(rt);
     };
-    let word = command.as_str().as_bytes();
-    if word == b"--help" {
+    let word = command.as_str();
+    if word == "--help" {
         rt.println(HELP)?;
         return Ok(());
     }
     match words.next() {
         Some(name) => {
-            if word == b"write" || word == b"judge" {
+            if word == "write" || word == "judge" {
                 return with_file(rt, command.as_str(), name.as_str());
             }
         }

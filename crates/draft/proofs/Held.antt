@@ -1,6 +1,6 @@
 -- What a draft's tables say of the draft that they hold.
-use Rattle.std.proofs.Common.{◌≡◌, ℕ, ◌+◌, ◌-◌, ◌<◌, ◌≤◌, Bool, true, false, cond, ◌&&◌, ltb, List, [], ◌∷◌, ◌++◌, map, length, take, drop, set, sym, refl, ap, ◌∙◌, arith}
-use Rattle.std.proofs.lemmas.List.{length-append, length-drop, length-map, length-take-le, length_push, map_push, drop-append-le, drop_all, take_rest, take_more_set, take-append-drop}
+use Rattle.std.proofs.Common.{◌≡◌, ℕ, ◌+◌, ◌-◌, ◌<◌, ◌≤◌, Bool, true, false, cond, ◌&&◌, ltb, List, [], ◌∷◌, ◌++◌, map, length, take, drop, set, sym, ap, ◌∙◌, arith}
+use Rattle.std.proofs.lemmas.List.{length-append, length-drop, length-take-le, length_push, map_push, drop-append-le, drop_all, take_rest, take_more_set, take-append-drop}
 use Rattle.std.proofs.lemmas.Bool.{lt-ltb, le-ltb}
 use Rattle.msc.specs.Doc.{all_events}
 use Rattle.msc.specs.Rows.{name_of, items_of}
@@ -13,7 +13,7 @@ use Rattle.forms.specs.Drafts as drafts
 use Rattle.draft.specs.Tiles.{tiles}
 use Rattle.draft.specs.Drafting.{draft_of, unopened}
 use Rattle.draft.specs.declared.draft.Draft.{Draft}
-use Rattle.draft.proofs.Tiling.{tiles_le, tiles_push, length_cut, cut_longer, cut_push, joined_cut, rows_le, charts_longer, joined_charts}
+use Rattle.draft.proofs.Tiling.{tiles_le, tiles_push, length_cut, cut_longer, cut_push, joined_cut, charts_longer, joined_charts}
 
 pub length_items : {T : Type 0} {n : ℕ} (t : Table T n) → length (items_of t) ≡ t.len
 length_items t = length-take-le t.len t.items (omega (arith, t.few, t.long))

@@ -1,5 +1,5 @@
 -- What a draft holds.
-use Rattle.std.specs.Prelude.{List, [], map, take, drop}
+use Rattle.std.specs.Prelude.{[], map, take, drop}
 use Rattle.msc.specs.Rows.{name_of, items_of}
 use Rattle.msc.specs.Stored.{cut, charts_from}
 use Rattle.forms.specs.Drafts as drafts

@@ -13,7 +13,7 @@ use Rattle.msc.specs.declared.symbol.Symbol.TheVariants.{Open, Close, Colon, Sem
 use Rattle.msc.specs.declared.words.Keyword.TheVariants as keyword
 use Rattle.lexis.specs.Lexing.{next_of, name_at, is_key, is_sign, word_at, sign_at}
 use Rattle.lexis.specs.Steps.{Step, got}
-use Rattle.forms.specs.Drafts.{Mention, Rest, final, node, Line, line_names, mentioned}
+use Rattle.forms.specs.Drafts.{Mention, Rest, Line, line_names, mentioned}
 use Rattle.forms.specs.Reading.{old_name_at, mention, alt_turn, list_at, rest_at, line_at, as_line, line_turn, lines_at, resolve, resolve_rest, resolve_lines}
 use Rattle.forms.proofs.Names.{distinct_push}
 use Rattle.forms.proofs.Steps.{got_value, got_rest, not_got, when_got, unless_got, either_case, then_got, turns_got}

@@ -1,12 +1,12 @@
 -- The tokens of a form of a well-formed document are tokens that a text can hold. Assumes nothing.
-use Rattle.std.proofs.Common.{◌≡◌, ℕ, suc, ◌<◌, ◌≤◌, max, true, cond, not, ◌&&◌, eqb, ltb, leb, ◌⊎◌, List, [], ◌∷◌, ◌++◌, length, All, sym, refl, ap, subst, inl, inr, arith}
-use Rattle.std.specs.List.{flat_map}
+use Rattle.std.proofs.Common.{◌≡◌, ℕ, suc, ◌<◌, ◌≤◌, max, true, cond, not, ◌&&◌, eqb, ltb, leb, ◌⊎◌, List, [], ◌∷◌, ◌++◌, length, sym, refl, ap, subst, inl, inr, arith}
+use Rattle.std.specs.List.{flat_map, AllByRecursion}
 use Rattle.std.proofs.lemmas.Bool.{and_parts, eqb-true, ltb-true}
 use Rattle.msc.specs.Doc.{Doc, Chart, Body, final, node, Label, chart_events, all_events, chart_names, label_names, out_count}
 use Rattle.msc.specs.Shortest.{inst_tokens, event_tokens, block_tokens, list_tokens, body_tokens, label_tokens, graph_tokens}
 use Rattle.msc.specs.Sound.{many, names, partner, parts, chart, numbered, list, body, differ}
 use Rattle.msc.specs.Spelling.{every, distinct, is_name}
-use Rattle.msc.specs.Tokens.{Tok, name, word, sign}
+use Rattle.msc.specs.Tokens.{Tok, word, sign}
 use Rattle.msc.specs.declared.event.Event.{Event}
 use Rattle.msc.specs.declared.event.Event.TheVariants.{Out, In, Action}
 use Rattle.msc.specs.declared.symbol.Symbol.TheVariants.{Semi}
@@ -16,11 +16,11 @@ use Rattle.forms.proofs.Names.{every_at, every_front, every_back}
 use Rattle.forms.proofs.Takes.{AllGood, good_join}
 use Rattle.forms.proofs.Facts.{Facts}
 
-pub all_front : {A : Type 0} (P : A → Type 0) (xs ys : List A) → All P (xs ++ ys) → All P xs
+pub all_front : {A : Type 0} (P : A → Type 0) (xs ys : List A) → AllByRecursion P (xs ++ ys) → AllByRecursion P xs
 all_front P [] ys h = tt
 all_front P (x ∷ xs) ys h = (h.0, all_front P xs ys h.1)
 
-pub all_back : {A : Type 0} (P : A → Type 0) (xs ys : List A) → All P (xs ++ ys) → All P ys
+pub all_back : {A : Type 0} (P : A → Type 0) (xs ys : List A) → AllByRecursion P (xs ++ ys) → AllByRecursion P ys
 all_back P [] ys h = h
 all_back P (x ∷ xs) ys h = all_back P xs ys h.1
 
@@ -39,7 +39,7 @@ Numbered m a (In n p) = n < m
 Numbered m a (Action n) = n < a
 
 -- names numbered by first appearance have numbers in range, and the counts only grow
-pub numbers_in : (m' a' : ℕ) (es : List Event) (m a : ℕ) → numbered m' a' m a es ≡ true → All (Numbered m' a') es × (m ≤ m') × (a ≤ a')
+pub numbers_in : (m' a' : ℕ) (es : List Event) (m a : ℕ) → numbered m' a' m a es ≡ true → AllByRecursion (Numbered m' a') es × (m ≤ m') × (a ≤ a')
 numbers_in m' a' [] m a h =
     let (x, y) = and_parts (eqb m m') (eqb a a') h in
     let i = eqb-true m m' x in
@@ -69,16 +69,16 @@ module _ (ws : List (List ℕ)) where
     good_event i (In n q) h k = let l = ltb-true q (length I) (and_parts (ltb q (length I)) (not (eqb q i)) h).0 in (tt, (every_at _ M n [] hm k, (tt, (every_at _ I q [] hi l, (tt, tt)))))
     good_event i (Action n) h k = (tt, (every_at _ A n [] ha k, (tt, tt)))
 
-    good_events : (i : ℕ) (es : List Event) → every (partner (length I) i) es ≡ true → All (Numbered (length M) (length A)) es → AllGood ws (flat_map (event_tokens I M A) es)
+    good_events : (i : ℕ) (es : List Event) → every (partner (length I) i) es ≡ true → AllByRecursion (Numbered (length M) (length A)) es → AllGood ws (flat_map (event_tokens I M A) es)
     good_events i [] h k = tt
     good_events i (e ∷ es) h k =
         let (x, y) = and_parts (partner (length I) i e) (every (partner (length I) i) es) h in
         good_join ws (event_tokens I M A e) _ (good_event i e x k.0) (good_events i es y k.1)
 
-    good_block : (i : ℕ) (es : List Event) → i < length I → every (partner (length I) i) es ≡ true → All (Numbered (length M) (length A)) es → AllGood ws (block_tokens I M A i es)
+    good_block : (i : ℕ) (es : List Event) → i < length I → every (partner (length I) i) es ≡ true → AllByRecursion (Numbered (length M) (length A)) es → AllGood ws (block_tokens I M A i es)
     good_block i es l h k = (tt, (every_at _ I i [] hi l, (tt, good_join ws (flat_map (event_tokens I M A) es) _ (good_events i es h k) (tt, (tt, tt)))))
 
-    good_blocks : (ps : List (List Event)) (i : ℕ) (us : List Tok) → Blocks I M A i ps us → parts (length I) i ps ≡ true → All (Numbered (length M) (length A)) (flat_map (λ p. p) ps) → AllGood ws us
+    good_blocks : (ps : List (List Event)) (i : ℕ) (us : List Tok) → Blocks I M A i ps us → parts (length I) i ps ≡ true → AllByRecursion (Numbered (length M) (length A)) (flat_map (λ p. p) ps) → AllGood ws us
     good_blocks [] i us e h k = subst (AllGood ws) (sym e) tt
     good_blocks (p ∷ ps) i us b h k =
         let (x, y) = and_parts (every (partner (length I) i) p) (cond (ltb i (length I)) true (eqb (length p) 0) && parts (length I) (suc i) ps) h in
@@ -86,11 +86,11 @@ module _ (ws : List (List ℕ)) where
         by b x (all_front _ p (flat_map (λ p. p) ps) k) (λ vs c. good_blocks ps (suc i) vs c w (all_back _ p (flat_map (λ p. p) ps) k))
       where
         by : {us : List Tok} → ((p ≡ []) × Blocks I M A (suc i) ps us) ⊎ ((vs : List Tok) × (i < length I) × (us ≡ block_tokens I M A i p ++ vs) × Blocks I M A (suc i) ps vs)
-            → every (partner (length I) i) p ≡ true → All (Numbered (length M) (length A)) p → ((vs : List Tok) → Blocks I M A (suc i) ps vs → AllGood ws vs) → AllGood ws us
+            → every (partner (length I) i) p ≡ true → AllByRecursion (Numbered (length M) (length A)) p → ((vs : List Tok) → Blocks I M A (suc i) ps vs → AllGood ws vs) → AllGood ws us
         by {us} (inl (z, c)) x k ih = ih us c
         by (inr (vs, l, e, c)) x k ih = subst (AllGood ws) (sym e) (good_join ws (block_tokens I M A i p) vs (good_block i p l x k) (ih vs c))
 
-    good_charts : (cs : List Chart) (us : List Tok) → ChartForms I M A cs us → every (is_name ws) (chart_names cs) ≡ true → every (chart (length I)) cs ≡ true → All (Numbered (length M) (length A)) (all_events cs) → AllGood ws us
+    good_charts : (cs : List Chart) (us : List Tok) → ChartForms I M A cs us → every (is_name ws) (chart_names cs) ≡ true → every (chart (length I)) cs ≡ true → AllByRecursion (Numbered (length M) (length A)) (all_events cs) → AllGood ws us
     good_charts [] us e n h k = subst (AllGood ws) (sym e) tt
     good_charts (c ∷ cs) us (vs, xs, (bs, b, e), f, g) n h k =
         let (n1, n2) = and_parts (is_name ws c.name) (every (is_name ws) (chart_names cs)) n in

@@ -121,15 +121,15 @@ module _ (ws : List (List ℕ)) (v : is_vocabulary ws ≡ true) where
           and_then_lem _ _ (action_comes p n m a le lim c pl) λ pl.
           and_then_lem _ _ (sign_comes ws v Semi c' pl) λ pl. (pl, refl)
 
-      has_room : (p : List Event) (m a : ℕ) → length (flat_map (λ x. x) P) + length p < 64 → length (all_events C) + (length (flat_map (λ x. x) P) + length p) < 1024 → has_room ws (state m a C P p) ≡ true
-      has_room p m a h k =
+      room_has : (p : List Event) (m a : ℕ) → length (flat_map (λ x. x) P) + length p < 64 → length (all_events C) + (length (flat_map (λ x. x) P) + length p) < 1024 → has_room ws (state m a C P p) ≡ true
+      room_has p m a h k =
           let l = length-append (flat_map (λ x. x) P) p in
           and_from _ _ (lt-ltb (length (flat_map (λ x. x) P ++ p)) 64 (omega arith)) (lt-ltb (length (all_events C) + length (flat_map (λ x. x) P ++ p)) 1024 (omega arith))
 
       has_room_out_lem : (p : List Event) (m a : ℕ) → length (flat_map (λ x. x) P) + length p < 64 → length (all_events C) + (length (flat_map (λ x. x) P) + length p) < 1024 → out_count (flat_map (λ x. x) P) + out_count p < 32 → has_room_out ws (state m a C P p) ≡ true
       has_room_out_lem p m a h k o =
           let l = outs_append (flat_map (λ x. x) P) p in
-          and_from _ _ (has_room p m a h k) (lt-ltb (out_count (flat_map (λ x. x) P ++ p)) 32 (omega arith))
+          and_from _ _ (room_has p m a h k) (lt-ltb (out_count (flat_map (λ x. x) P ++ p)) 32 (omega arith))
 
       -- one event, with the numbers of names that it leaves: its name is one of those seen or the next, and the limits leave room
       event_comes : (e : Event) (i : ℕ) (p : List Event) (m a : ℕ) (fut : List Event) {s r : List ℕ} → partner (length I) i e ≡ true → numbered (length M) (length A) m a (e ∷ fut) ≡ true
@@ -153,7 +153,7 @@ module _ (ws : List (List ℕ)) (v : is_vocabulary ws ≡ true) where
             a,
             y,
             λ pl. let (u, e) = next_comes ws v (word keyword.In) c pl in
-                and_then_lem (next_of ws pl s) _ e λ pl. comes_when _ _ _ (has_room p m a h k)
+                and_then_lem (next_of ws pl s) _ e λ pl. comes_when _ _ _ (room_has p m a h k)
                 (and_then_lem _ _ (message_event_comes keyword.From In i p n q m a (leb-true n m x) lim pa t pl) λ pl. (pl, refl)),
           )
       event_comes (Action n) i p m a fut {s} {r} pa nu h k o (then c t) =
@@ -163,7 +163,7 @@ module _ (ws : List (List ℕ)) (v : is_vocabulary ws ≡ true) where
             max a (suc n),
             y,
             λ pl. let (u, e) = next_comes ws v (word keyword.Action) c pl in
-                and_then_lem (next_of ws pl s) _ e λ pl. comes_when _ _ _ (has_room p m a h k)
+                and_then_lem (next_of ws pl s) _ e λ pl. comes_when _ _ _ (room_has p m a h k)
                 (and_then_lem _ _ (action_event_comes p n m a (leb-true n a x) lim t pl) λ pl. (pl, refl)),
           )
 

@@ -1,5 +1,6 @@
 -- The spot of a refusal lies in the text. Assumes nothing.
-use Rattle.std.proofs.Common.{◌≡◌, ℕ, zero, suc, ◌+◌, ◌≤◌, Bool, true, false, cond, ◌&&◌, eqb, ltb, leb, List, [], ◌∷◌, ◌++◌, length, drop, Some, None, Ok, Err, All, Option, Result, refl, subst, arith, length-drop}
+use Rattle.std.proofs.Common.{◌≡◌, ℕ, zero, suc, ◌+◌, ◌≤◌, Bool, true, false, cond, ◌&&◌, eqb, ltb, leb, List, [], ◌∷◌, ◌++◌, length, drop, Some, None, Ok, Err, Option, Result, refl, subst, arith, length-drop}
+use Rattle.std.specs.List.{AllByRecursion}
 use Rattle.std.specs.List.{prefix_len}
 use Rattle.std.proofs.lemmas.List.Sums.{prefix_len-le-length}
 use Rattle.std.proofs.lemmas.Bool.{leb-false}
@@ -8,7 +9,7 @@ use Rattle.msc.specs.Sound.{most}
 use Rattle.msc.specs.Spelling.{wordy, place, has}
 use Rattle.msc.specs.Tokens.{Tok, name, word, sign, end}
 use Rattle.msc.specs.declared.event.Event.{Event}
-use Rattle.msc.specs.declared.event.Event.TheVariants.{Out, In, Action}
+use Rattle.msc.specs.declared.event.Event.TheVariants.{Out, In}
 use Rattle.msc.specs.declared.symbol.Symbol.{Symbol}
 use Rattle.msc.specs.declared.symbol.Symbol.TheVariants.{Open, Close, Colon, Semi}
 use Rattle.msc.specs.declared.words.Keyword.{Keyword}
@@ -172,7 +173,7 @@ module _ (N : ℕ) where
 
     -- mentions of labels lie in the text
     abbrev Mentions : List Mention → Type 0
-    Mentions ms = All (λ (m : Mention). m.at ≤ N) ms
+    Mentions ms = AllByRecursion (λ (m : Mention). m.at ≤ N) ms
 
     mentions_push : (ms : List Mention) (m : Mention) → Mentions ms → m.at ≤ N → Mentions (ms ++ (m ∷ []))
     mentions_push [] m h l = (l, tt)
@@ -195,7 +196,7 @@ module _ (N : ℕ) where
     InRest (node c ms) = Mentions ms
 
     abbrev InLines : List Line → Type 0
-    InLines ls = All (λ (l : Line). InRest l.rest) ls
+    InLines ls = AllByRecursion (λ (l : Line). InRest l.rest) ls
 
     lines_push : (ls : List Line) (l : Line) → InLines ls → InRest l.rest → InLines (ls ++ (l ∷ []))
     lines_push [] l h k = (k, tt)

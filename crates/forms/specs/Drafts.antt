@@ -1,7 +1,7 @@
 -- What has been read so far.
 use Rattle.std.specs.Prelude.{ℕ, ◌+◌, ◌-◌, List, [], ◌∷◌, ◌++◌, length, replicate}
 use Rattle.std.specs.List.{flat_map}
-use Rattle.msc.specs.Doc.{Chart, all_events, out_count}
+use Rattle.msc.specs.Doc.{Chart, all_events}
 use Rattle.msc.specs.declared.event.Event.{Event}
 
 -- ahead of the graph: names and charts that are declared, and of the chart at hand the parts that are closed and the one that is open

@@ -1,4 +1,6 @@
 // The forms of a text: what reading means, and its laws. No code but what names the theorems.
+#![tactic(auto)]
+
 ghost use Rattle.std.specs.Prelude.{◌≡◌};
 ghost use Rattle.forms.specs.Theorems.{ReadsExactly, ReadsBack, IsShortest, NoShorter, SpotsInside};
 

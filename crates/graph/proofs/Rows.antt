@@ -1,5 +1,5 @@
 -- The names of rows, by the lists that they stand for.
-use Rattle.std.proofs.Common.{◌≡◌, ℕ, suc, ◌+◌, ◌<◌, Bool, true, false, cond, List, [], ◌∷◌, map, length, get_or, Some, None, Option, refl, ap, arith}
+use Rattle.std.proofs.Common.{◌≡◌, ℕ, suc, ◌+◌, ◌<◌, Bool, true, false, cond, List, [], ◌∷◌, map, length, get_or, Some, Option, refl, ap, arith}
 use Rattle.std.specs.Str.{bytes_eq}
 use Rattle.msc.specs.Spelling.{place_from}
 use Rattle.msc.specs.Rows.{name_of}

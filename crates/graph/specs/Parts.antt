@@ -1,5 +1,5 @@
 -- Steps inside the forms of lists and label lines.
-use Rattle.std.specs.Prelude.{ℕ, Bool, true, false, cond, List, [], ◌∷◌, ◌++◌, length, nat_lt}
+use Rattle.std.specs.Prelude.{ℕ, Bool, false, cond, List, [], ◌∷◌, ◌++◌, length, nat_lt}
 use Rattle.msc.specs.Spelling.{has}
 use Rattle.lexis.specs.Lexing.{name_at}
 use Rattle.lexis.specs.Steps.{Step, got, bad, and_then}

@@ -1,4 +1,6 @@
 // Reads the graph of a document: its start list and its label lines.
+#![tactic(auto)]
+
 pub mod grammar;
 pub mod line;
 pub mod lists;

@@ -6,7 +6,7 @@ use Rattle.msc.specs.Doc.{Doc, Label, Body, final, node, all_events, chart_names
 use Rattle.msc.specs.Listing.{Mem}
 use Rattle.msc.specs.Meaning.{meaning_of, chart_of, list_of, no_chart, no_label, start}
 use Rattle.msc.specs.Shortest.{text_of}
-use Rattle.msc.specs.Sound.{well_formed, many, names, chart, parts, numbered, differ, list, body, most}
+use Rattle.msc.specs.Sound.{well_formed, many, names, chart, numbered, differ, list, body, most}
 use Rattle.msc.specs.Spelling.{every, is_name, is_vocabulary}
 use Rattle.joined.specs.Limits.{Limits}
 

@@ -1,4 +1,6 @@
 // What joins the judge and the order of events: an accepted document gives what the laws of paths, cuts and queues ask for.
+#![tactic(auto)]
+
 ghost use Rattle.std.specs.Prelude.{◌≡◌};
 ghost use Rattle.msc.specs.Meaning.{meaning_of};
 ghost use Rattle.joined.specs.Ping.{ping};

@@ -1,12 +1,12 @@
 -- The marked labels are those that lead to an end.
-use Rattle.std.proofs.Common.{◌≡◌, ℕ, zero, suc, ◌+◌, ◌-◌, ◌<◌, ◌≤◌, Bool, true, false, cond, not, ◌&&◌, ◌||◌, ◌⊎◌, List, [], ◌∷◌, ◌++◌, length, get_or, set, replicate, is_some, Some, None, sum_by, count_by, Option, sym, refl, ap, ◌∙◌, subst, inl, inr, ⊎_elim, arith, length-set, get_or-set_other, get_or-set_same}
+use Rattle.std.proofs.Common.{◌≡◌, ℕ, zero, suc, ◌+◌, ◌<◌, ◌≤◌, Bool, true, false, cond, not, List, [], ◌∷◌, length, get_or, set, replicate, is_some, Some, None, count_by, Option, sym, refl, ap, ◌∙◌, subst, inl, ⊎_elim, arith, length-set, get_or-set_other}
 use lib.ListN.{get_or-replicate}
 use Rattle.std.proofs.lemmas.List.{get_or_past}
 use Rattle.std.proofs.lemmas.List.Sums.{sum_by-set, sum_by-cons, count_by-le-length}
-use Rattle.std.proofs.lemmas.Bool.{cases_lt, cases_eq, cases_Bool, both_ways, and_parts, and_cases, or_cases, or_left, or_right, not-true, not-false, not_from_false}
+use Rattle.std.proofs.lemmas.Bool.{cases_lt, cases_eq, cases_Bool, both_ways, and_parts, and_cases, or_cases, or_left, or_right, not-true, not-false}
 use Rattle.msc.specs.Listing.{Mem}
-use Rattle.msc.specs.Meaning.{Meaning, start}
-use Rattle.msc.specs.Choice.{IsEnd, IsNode, LeadsToEnd, ends, goes}
+use Rattle.msc.specs.Meaning.{Meaning}
+use Rattle.msc.specs.Choice.{IsEnd, LeadsToEnd, ends, goes}
 use Rattle.order.specs.Scans.{first}
 use Rattle.judge.specs.Checks.{leads_on, unmarked, next_mark, marked}
 use Rattle.order.proofs.Scanned.{lowest_none, lowest_some, first_none, first_some, repeat_keeps, repeat_stuck}

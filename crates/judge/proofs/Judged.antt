@@ -1,5 +1,5 @@
 -- What the judge's answer says of a document.
-use Rattle.std.proofs.Common.{◌≡◌, ℕ, zero, suc, ◌<◌, ◌≤◌, Bool, true, false, List, [], ◌∷◌, length, get_or, Some, None, Option, sym, refl, ap, ◌∙◌, subst, arith}
+use Rattle.std.proofs.Common.{◌≡◌, ℕ, zero, suc, ◌≤◌, true, List, length, get_or, None, Option, sym, refl, ap, ◌∙◌, subst, arith}
 use Rattle.std.proofs.lemmas.List.{get_or_past}
 use Rattle.msc.specs.BuiltIn.{built_in}
 use Rattle.msc.specs.Meaning.{Meaning, meaning_of}
@@ -8,7 +8,7 @@ use Rattle.msc.specs.declared.document.Document.{Document}
 use Rattle.order.specs.Charts.{played, starters}
 use Rattle.judge.specs.Checks.{marked, leaders_from}
 use Rattle.order.specs.Meant.{meant}
-use Rattle.judge.specs.Rules.{Fair, Breaks, AreLeaders}
+use Rattle.judge.specs.Rules.{Fair, AreLeaders}
 use Rattle.order.specs.Scans.{lowest, all, repeat}
 use Rattle.judge.specs.Verdict.{refusal_of, is_none, is_fair, leaders_of, Said}
 use Rattle.judge.specs.declared.accepted.Accepted.{Accepted}

@@ -1,5 +1,5 @@
 -- Small drawings: their checks compute.
-use Rattle.std.proofs.Common.{◌≡◌, true, Some, None, Option, sym, refl, subst}
+use Rattle.std.proofs.Common.{◌≡◌, true, Some, None, Option, refl, subst}
 use Rattle.msc.specs.BuiltIn.{built_in}
 use Rattle.msc.specs.Doc.{Doc}
 use Rattle.msc.specs.Meaning.{meaning_of}

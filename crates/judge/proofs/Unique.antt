@@ -1,8 +1,8 @@
 -- A document breaks one rule first, at one spot.
-use Rattle.std.proofs.Common.{◌≡◌, ℕ, ◌<◌, ◌⊎◌, List, [], ◌∷◌, ◌++◌, Some, None, Option, sym, refl, ap, ◌∙◌, subst, inl, inr, ⊎_elim, arith}
+use Rattle.std.proofs.Common.{◌≡◌, ℕ, ◌<◌, ◌⊎◌, List, [], ◌∷◌, ◌++◌, Some, None, sym, refl, ap, ◌∙◌, subst, inl, inr, ⊎_elim, arith}
 use Rattle.std.proofs.lemmas.Bool.{cases_order}
 use Rattle.msc.specs.Listing.{Mem}
-use Rattle.msc.specs.Meaning.{Meaning, start}
+use Rattle.msc.specs.Meaning.{Meaning}
 use Rattle.msc.specs.Choice.{Matched, Listable, OneFirst, IsEnd, IsNode, OneLeader, LeaderTakesPart, LeadsToEnd}
 use Rattle.order.proofs.Members.{mem_right}
 use Rattle.judge.specs.Results.{Determined}

@@ -1,16 +1,14 @@
 -- The checks say what the rules say.
-use Rattle.std.proofs.Common.{◌≡◌, ℕ, zero, suc, ◌+◌, ◌<◌, ◌≤◌, Bool, true, false, cond, not, ◌&&◌, ◌||◌, eqb, ltb, ◌⊎◌, List, [], ◌∷◌, ◌++◌, length, get_or, is_some, Some, None, Decides, Option, sym, refl, ap, ◌∙◌, subst, inl, inr, ⊎_elim, zero-add, arith}
-use Rattle.std.proofs.lemmas.Bool.Decides.{Decides-ltb, Decides-eqb, Decides-or, not_from_Decides}
-use Rattle.std.proofs.lemmas.Bool.{cases_lt, cases_eq, cases_Bool, both_ways, and_parts, and_cases, not-true, not-false}
+use Rattle.std.proofs.Common.{◌≡◌, ℕ, zero, suc, ◌+◌, ◌<◌, ◌≤◌, true, false, not, ◌||◌, eqb, [], ◌∷◌, ◌++◌, get_or, is_some, Some, None, Decides, Option, sym, refl, ap, ◌∙◌, subst, inl, inr, ⊎_elim, zero-add, arith}
+use Rattle.std.proofs.lemmas.Bool.Decides.{Decides-ltb, Decides-eqb, Decides-or}
+use Rattle.std.proofs.lemmas.Bool.{cases_eq, both_ways, and_parts, and_cases, not-true, not-false}
 use Rattle.msc.specs.Listing.{Mem}
 use Rattle.msc.specs.Meaning.{Meaning, start}
-use Rattle.msc.specs.Choice.{Matched, Listable, OneFirst, IsEnd, IsNode, LeadsList, OneLeader, LeaderTakesPart, LeadsToEnd}
-use Rattle.judge.specs.Rules.{Everywhere, Lowest, IsChart, IsList, AllMatched, AllListable, AllOneFirst, StartsAtNodes, AllOneLeader, AllLeadersTakePart, AllLeadToEnd, Fair, FirstEndAtStart, Breaks, IsLeader, AreLeaders}
-use Rattle.order.specs.Scans.{first}
+use Rattle.msc.specs.Choice.{Matched, Listable, OneFirst, IsNode, OneLeader, LeaderTakesPart, LeadsToEnd}
+use Rattle.judge.specs.Rules.{Everywhere, Lowest, IsChart, IsList, AllMatched, AllListable, AllOneFirst, StartsAtNodes, AllOneLeader, Fair, FirstEndAtStart, Breaks, IsLeader, AreLeaders}
 use Rattle.order.specs.Charts.{leader_of}
 use Rattle.judge.specs.Checks.{is_end, covers, holds, breaks, broken, end_at_start, list_leaders, leaders_from}
-use Rattle.judge.specs.Verdict.{or_else, chart_rules, list_rules, refusal_of, is_none, is_fair, leaders_of, Said}
-use Rattle.order.specs.declared.leaders.Leaders.{Leaders}
+use Rattle.judge.specs.Verdict.{or_else, list_rules, refusal_of, is_none, is_fair, leaders_of, Said}
 use Rattle.judge.specs.declared.refusal.Refusal.{Refusal}
 use Rattle.judge.specs.declared.refusal.Refusal.TheVariants.{Unmatched, Cyclic, NotOneFirst, EndAtStart, TwoLeaders, LeaderAbsent, NoEnd}
 use Rattle.judge.specs.declared.rule.Rule.{Rule}

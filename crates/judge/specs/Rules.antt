@@ -1,5 +1,5 @@
 -- What the judge says of a document: the rules in their order, each over all charts or lists before the next, the lowest that breaks one named.
-use Rattle.std.specs.Prelude.{◌≡◌, ℕ, ◌<◌, ◌≤◌, ◌⊎◌, List, [], ◌∷◌, ◌++◌, length, Some, None, Ok, Err, Option, Result, slice_index_or}
+use Rattle.std.specs.Prelude.{◌≡◌, ℕ, ◌<◌, ◌≤◌, ◌⊎◌, List, ◌∷◌, ◌++◌, Some, None, Option, slice_index_or}
 use Rattle.msc.specs.Listing.{Mem}
 use Rattle.msc.specs.Meaning.{Meaning, start}
 use Rattle.msc.specs.Choice.{Matched, Listable, OneFirst, IsEnd, IsNode, LeadsList, OneLeader, LeaderTakesPart, LeadsToEnd}

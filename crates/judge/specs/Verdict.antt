@@ -1,11 +1,10 @@
 -- The judge's answer: the first rule that is broken, if any.
-use Rattle.std.specs.Prelude.{◌≡◌, ℕ, Bool, true, false, List, Some, None, Option}
+use Rattle.std.specs.Prelude.{ℕ, Bool, true, false, List, Some, None, Option}
 use Rattle.msc.specs.Meaning.{Meaning}
 use Rattle.judge.specs.Checks.{broken, end_at_start, leaders_from}
 use Rattle.judge.specs.Rules.{Fair, Breaks}
 use Rattle.judge.specs.declared.refusal.Refusal.{Refusal}
 use Rattle.judge.specs.declared.refusal.Refusal.TheVariants.{Unmatched, Cyclic, NotOneFirst, EndAtStart, TwoLeaders, LeaderAbsent, NoEnd}
-use Rattle.judge.specs.declared.rule.Rule.{Rule}
 use Rattle.judge.specs.declared.rule.Rule.TheVariants as rule
 
 -- a refusal for what was found, or what follows where nothing was

@@ -1,4 +1,6 @@
 // Judges documents: accepts those whose every branch has one instance that decides it.
+#![tactic(auto)]
+
 pub mod accepted;
 mod judging;
 mod leading;

@@ -1,5 +1,7 @@
 // Lanes: a channel of at most 64 letters, in fixed memory, with a first-in-first-out queue for each
 // pair.
+#![tactic(auto)]
+
 ghost use Rattle.std.specs.Prelude.{◌≡◌, ℕ, ◌-◌, ◌<◌, ◌≤◌, [], length, take, ◌==◌};
 ghost use Rattle.std.proofs.Common.{length-take, arith, rules};
 ghost use Rattle.std.specs.List.{remove};

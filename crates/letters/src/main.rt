@@ -1,5 +1,7 @@
 // Sends letters through each kind of channel, and prints what goes in, what waits and what comes
 // out.
+#![tactic(auto)]
+
 ghost use Rattle.std.specs.Prelude.{◌≡◌, ℕ, true, [], Ok};
 ghost use Rattle.channel.specs.Waits.{is_pair};
 
@@ -93,7 +95,7 @@ fn show_restorer<B: Bag>(rt: &HostRuntime, restorer: &mut Restorer<B>) -> io::Re
 
 // Over any sound channel in which nothing waits, the letter that is put is the one that is taken.
 fn passes<C: Channel>(channel: &mut C, from: u8, to: u8, letter: Letter) -> Result<Letter, Refusal>
-    ensures { sound channel.old → is_pair from to ≡ true → ((f t : ℕ) → waiting channel.old f t ≡ []) → result ≡ Ok letter }
+    ensures { C.sound channel.old → is_pair from to ≡ true → ((f t : ℕ) → C.waiting channel.old f t ≡ []) → result ≡ Ok letter }
 {
     channel.put(from, to, letter)?;
     channel.take(from, to)

@@ -1,14 +1,13 @@
 -- The next token at a place of a text.
-use Rattle.std.proofs.Common.{◌≡◌, ℕ, suc, ◌+◌, ◌-◌, ◌<◌, ◌≤◌, Bool, true, false, cond, List, [], ◌∷◌, length, get_or, take, drop, Some, None, Option, sym, refl, ap, ◌∙◌, subst, arith, length-take}
+use Rattle.std.proofs.Common.{◌≡◌, ℕ, ◌+◌, ◌<◌, ◌≤◌, List, ◌∷◌, length, get_or, take, drop, Some, None, Option, sym, ap, ◌∙◌, subst}
 use Rattle.std.proofs.lemmas.Bool.{cond-false, le-ltb}
 use Rattle.std.specs.List.{prefix_len}
 use Rattle.std.proofs.lemmas.List.{at_drop_more, at_drop_all, drop-drop, drop_more, drop_all}
 use Rattle.msc.specs.Spelling.{wordy, place}
-use Rattle.msc.specs.Tokens.{Tok, name, word, sign, end}
+use Rattle.msc.specs.Tokens.{Tok, end}
 use Rattle.lexis.specs.declared.class.Class.{Class}
-use Rattle.lexis.specs.declared.class.Class.TheVariants as class
 use Rattle.lexis.specs.Classes.{class_of, separator}
-use Rattle.lexis.specs.Steps.{Step, got, bad}
+use Rattle.lexis.specs.Steps.{got}
 use Rattle.lexis.specs.Lexing.{at_place, tok_of, word_of, by_class, first_of, next_of}
 use Rattle.lexis.specs.Readers.{symbol_of, symbol_at, Short}
 

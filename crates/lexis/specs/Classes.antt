@@ -1,5 +1,5 @@
 -- The class of each byte.
-use Rattle.std.specs.Prelude.{ℕ, Bool, true, false, cond, ◌||◌, ◌==◌}
+use Rattle.std.specs.Prelude.{ℕ, Bool, cond, ◌||◌, ◌==◌}
 use Rattle.msc.specs.Spelling.{letter, inner}
 use Rattle.lexis.specs.declared.class.Class.{Class}
 use Rattle.lexis.specs.declared.class.Class.TheVariants.{Separator, Letter, Inner, Open, Close, Colon, Semi, Illegal}

@@ -1,5 +1,5 @@
 -- The tokens of a text, under a table of reserved words.
-use Rattle.std.specs.Prelude.{ℕ, ◌+◌, Bool, true, false, cond, List, [], ◌∷◌, length, take, drop, Some, None, Option, ◌==◌, nat_lt, slice_index_or}
+use Rattle.std.specs.Prelude.{ℕ, ◌+◌, Bool, true, false, cond, List, [], ◌∷◌, take, drop, Some, None, Option, ◌==◌, nat_lt, slice_index_or}
 use Rattle.std.specs.List.{prefix_len}
 use Rattle.msc.specs.Spelling.{wordy, place}
 use Rattle.msc.specs.Tokens.{Tok, name, word, sign, end, rank, sign_byte}

@@ -1,4 +1,6 @@
 // Words: cuts a text into tokens.
+#![tactic(auto)]
+
 pub mod bytes;
 pub mod class;
 pub mod cursor;

@@ -1,10 +1,10 @@
 -- What is read of a document's tables at a number.
-use Rattle.std.proofs.Common.{◌≡◌, ℕ, zero, suc, ◌-◌, ◌<◌, ◌≤◌, min, true, false, cond, eqb, ltb, List, [], ◌∷◌, map, length, get_or, take, drop, sym, refl, ap, ◌∙◌, ⊎_elim, arith, ne_eqb}
+use Rattle.std.proofs.Common.{◌≡◌, ℕ, zero, suc, ◌-◌, ◌<◌, ◌≤◌, min, cond, eqb, List, [], ◌∷◌, map, length, get_or, take, drop, sym, refl, ap, ◌∙◌, ⊎_elim, arith, ne_eqb}
 use native.Mathlib.Nat.{zero-sub}
 use Rattle.std.proofs.lemmas.List.{length-map, get_or-map, get_or_past, take_all, drop_all, length-drop}
 use Rattle.std.proofs.lemmas.Bool.{cond-false, cases_lt}
-use Rattle.msc.specs.Meaning.{no_label, no_chart, list_of}
-use Rattle.msc.specs.Stored.{label_of, body_of, cut, charts_from, ends_of, end_at, ahead, begin_at}
+use Rattle.msc.specs.Meaning.{no_label, no_chart}
+use Rattle.msc.specs.Stored.{label_of, cut, charts_from, ends_of, end_at, ahead, begin_at}
 use Rattle.msc.specs.declared.chart.Chart.{Chart}
 use Rattle.msc.specs.declared.label.Label.{Label}
 use Rattle.msc.specs.declared.event.Event.{Event}

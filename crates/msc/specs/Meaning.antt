@@ -1,5 +1,5 @@
 -- The meaning of a document: what judges, paths and players speak of.
-use Rattle.std.specs.Prelude.{ℕ, cond, List, [], ◌∷◌, length, get_or, Some, None, Option, ◌==◌, slice_index_or}
+use Rattle.std.specs.Prelude.{ℕ, cond, List, [], length, get_or, Some, None, Option, ◌==◌, slice_index_or}
 use Rattle.msc.specs.Doc.{Doc, Chart, Body, final, node, Label}
 use Rattle.msc.specs.declared.event.Event.{Event}
 

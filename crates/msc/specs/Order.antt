@@ -4,7 +4,7 @@ use Rattle.std.specs.Prelude.{◌≡◌, ℕ, zero, suc, ◌<◌, ◌⊎◌, Lis
 use Rattle.msc.specs.Events.{out_to, in_from, picked}
 use Rattle.msc.specs.Listing.{Chain, Whole}
 use Rattle.msc.specs.declared.event.Event.{Event}
-use Rattle.msc.specs.declared.event.Event.TheVariants.{Out, In, Action}
+use Rattle.msc.specs.declared.event.Event.TheVariants.{Out, In}
 
 -- an event of a chart: the instance, and the number in its part
 pub data Spot : Type 0 where

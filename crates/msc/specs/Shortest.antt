@@ -1,5 +1,5 @@
 -- The shortest text of a document: its forms in order, empty blocks left out, one space where a word follows a word.
-use Rattle.std.specs.Prelude.{ℕ, zero, suc, List, [], ◌∷◌, ◌++◌, length, slice_index_or}
+use Rattle.std.specs.Prelude.{ℕ, suc, List, [], ◌∷◌, ◌++◌, slice_index_or}
 use Rattle.std.specs.List.{flat_map}
 use Rattle.msc.specs.Doc.{Doc, Chart, Body, final, node, Label, chart_names, label_names}
 use Rattle.msc.specs.Tokens.{Tok, name, word, sign, spell}

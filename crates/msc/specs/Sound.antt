@@ -1,5 +1,5 @@
 -- Which documents are well formed.
-use Rattle.std.specs.Prelude.{ℕ, zero, suc, max, Bool, true, false, cond, not, ◌&&◌, ◌||◌, ltb, List, [], ◌∷◌, ◌++◌, length, ◌==◌, nat_le, nat_lt}
+use Rattle.std.specs.Prelude.{ℕ, suc, max, Bool, true, false, cond, not, ◌&&◌, ◌||◌, ltb, List, [], ◌∷◌, ◌++◌, length, ◌==◌, nat_le, nat_lt}
 use Rattle.msc.specs.Doc.{Doc, Chart, Body, final, node, Label, chart_events, all_events, chart_names, label_names, out_count}
 use Rattle.msc.specs.Shortest.{text_of}
 use Rattle.msc.specs.Spelling.{every, distinct, is_name, is_vocabulary}

@@ -1,5 +1,5 @@
 -- The document that tables hold.
-use Rattle.std.specs.Prelude.{ℕ, zero, suc, ◌-◌, List, [], ◌∷◌, map, slice_index, slice_index_or, slice_range}
+use Rattle.std.specs.Prelude.{ℕ, zero, suc, List, [], ◌∷◌, map, slice_index, slice_index_or, slice_range}
 use Rattle.msc.specs.Doc.{Doc, Body, final, node}
 use Rattle.msc.specs.Doc as doc
 use Rattle.msc.specs.Rows.{name_of, items_of, labels_of}
@@ -8,7 +8,6 @@ use Rattle.msc.specs.declared.chart.Chart.{Chart}
 use Rattle.msc.specs.declared.label.Label.{Label}
 use Rattle.msc.specs.declared.label.Body.TheVariants as body
 use Rattle.msc.specs.declared.event.Event.{Event}
-use Rattle.msc.specs.declared.name.Name.{Name}
 use Rattle.msc.specs.declared.tables.Tables.{Tables}
 
 -- the parts that end at the given places of the events, the first beginning at a

@@ -1,4 +1,6 @@
 // Documents: procedures drawn as message sequence charts joined in a graph.
+#![tactic(auto)]
+
 pub mod built_in;
 pub mod chart;
 pub mod copies;

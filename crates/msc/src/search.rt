@@ -32,7 +32,7 @@ impl Named for Chart {
 
 // The first row that is called w.
 pub fn find<T: Named>(rows: &[T], w: &[u8]) -> Option<usize>
-    ensures { result ≡ place (map called rows.now) w.now }
+    ensures { result ≡ place (map T.called rows.now) w.now }
 {
     for i in 0..rows.len() {
         if w == rows[i].word() {
@@ -44,7 +44,7 @@ pub fn find<T: Named>(rows: &[T], w: &[u8]) -> Option<usize>
 
 // Whether some row is called w.
 pub fn contains<T: Named>(rows: &[T], w: &[u8]) -> bool
-    ensures { result ≡ has (map called rows.now) w.now }
+    ensures { result ≡ has (map T.called rows.now) w.now }
 {
     find(rows, w).is_some()
 }

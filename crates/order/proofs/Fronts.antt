@@ -1,8 +1,8 @@
 -- Where pairs match, the events with none before them are the first events of parts that are no ins.
-use Rattle.std.proofs.Common.{◌≡◌, ℕ, zero, suc, ◌+◌, ◌-◌, ◌<◌, ◌≤◌, Bool, true, false, cond, eqb, ltb, ◌⊎◌, List, [], ◌∷◌, ◌++◌, length, get_or, take, drop, sym, refl, ap, ◌∙◌, subst, inl, inr, ⊎_elim, arith}
+use Rattle.std.proofs.Common.{◌≡◌, ℕ, zero, suc, ◌<◌, ◌≤◌, true, false, ◌⊎◌, List, [], ◌∷◌, length, drop, sym, refl, ap, ◌∙◌, subst, inl, inr, arith}
 use Rattle.std.proofs.lemmas.Bool.{both_ways, cases_lt}
-use Rattle.msc.specs.Listing.{Mem, Chain, link}
-use Rattle.msc.specs.Order.{Spot, spot, Occ, occ, inst, IsSpot, Belongs, IsOcc, Direct, Before, First}
+use Rattle.msc.specs.Listing.{Mem, link}
+use Rattle.msc.specs.Order.{spot, Occ, occ, inst, Direct, First}
 use Rattle.msc.specs.declared.event.Event.{Event}
 use Rattle.msc.specs.declared.event.Event.TheVariants.{Out, In, Action}
 use Rattle.order.specs.Charts.{opens, starts, starters, gathered}

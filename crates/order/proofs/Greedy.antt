@@ -1,16 +1,16 @@
 -- A chart that is played greedily is played whole exactly if its events can be listed.
-use Rattle.std.proofs.Common.{◌≡◌, ℕ, zero, suc, ◌+◌, ◌-◌, ◌<◌, ◌≤◌, Bool, true, false, cond, eqb, ltb, leb, ◌≢◌, ◌⊎◌, List, [], ◌∷◌, ◌++◌, length, get_or, take, drop, set, replicate, Some, None, sum, Option, sym, refl, ap, ◌∙◌, subst, inl, inr, ⊎_elim, arith, length-set, drop-cons, get_or-set_other, get_or-set_same}
+use Rattle.std.proofs.Common.{◌≡◌, ℕ, zero, suc, ◌+◌, ◌<◌, ◌≤◌, Bool, true, false, cond, ltb, ◌⊎◌, List, [], ◌∷◌, ◌++◌, length, get_or, take, drop, replicate, Some, None, sum, sym, refl, ap, ◌∙◌, subst, inl, inr, ⊎_elim, arith, length-set, drop-cons, get_or-set_other, get_or-set_same}
 use native.Mathlib.Decide.{dec_lt}
 use lib.ListN.{get_or-replicate}
 use Rattle.std.proofs.lemmas.List.{get_or_past}
 use Rattle.std.proofs.lemmas.List.Sums.{sum_by-set}
-use Rattle.std.proofs.lemmas.Bool.{cases_lt, cases_eq, cases_Bool, ltb-true, lt-ltb, le-leb, leb-true, both_ways}
+use Rattle.std.proofs.lemmas.Bool.{cases_lt, cases_eq, ltb-true, lt-ltb, le-leb, leb-true, both_ways}
 use Rattle.msc.specs.Events.{out_to, in_from, picked}
-use Rattle.msc.specs.Listing.{Mem, NoRep, After, Chain, link, chain, Whole}
-use Rattle.msc.specs.Order.{Spot, spot, Occ, occ, IsSpot, Belongs, Ahead, IsOcc, Direct, Before, Linearisation, chart_at}
+use Rattle.msc.specs.Listing.{Mem, NoRep, After, link}
+use Rattle.msc.specs.Order.{Spot, spot, Occ, occ, Belongs, IsOcc, Direct, Before, Linearisation}
 use Rattle.msc.specs.declared.event.Event.{Event}
 use Rattle.msc.specs.declared.event.Event.TheVariants.{Out, In, Action}
-use Rattle.order.specs.Charts.{playable, can_play, ready, advanced, played, is_played, is_finished, is_listable}
+use Rattle.order.specs.Charts.{playable, can_play, ready, advanced, played, is_played, is_listable}
 use Rattle.order.proofs.Scanned.{lowest_none, lowest_some, all_each, all_from, repeat_keeps, repeat_stuck}
 use Rattle.order.proofs.Members.{mem_left, mem_right, mem_cases, norep_snoc, after_snoc, after_chain, first-not}
 use Rattle.order.proofs.Drawn.{Framed, Pairs, drop_lt, picked_mono, out_more, out_of}

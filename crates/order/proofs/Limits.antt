@@ -1,5 +1,5 @@
 -- What the judge's proofs use of a well-formed document.
-use Rattle.std.proofs.Common.{◌≡◌, ℕ, ◌<◌, ◌≤◌, List, [], ◌∷◌, ◌++◌, Some, None, Option, sym, refl, ap, ◌∙◌, subst}
+use Rattle.std.proofs.Common.{◌≡◌, ℕ, ◌<◌, ◌≤◌, [], Some, None}
 use Rattle.msc.specs.Listing.{Mem}
 use Rattle.msc.specs.Meaning.{Meaning}
 use Rattle.order.proofs.Drawn.{Framed}

@@ -1,6 +1,6 @@
 -- Lists that respect an order.
-use Rattle.std.proofs.Common.{◌≡◌, ℕ, zero, suc, ◌⊎◌, List, [], ◌∷◌, ◌++◌, sym, refl, ap, ◌∙◌, subst, inl, inr, ⊎_elim}
-use Rattle.msc.specs.Listing.{Mem, NoRep, After, Chain, link, chain, Whole}
+use Rattle.std.proofs.Common.{◌⊎◌, List, [], ◌∷◌, ◌++◌, sym, refl, subst, inl, inr, ⊎_elim}
+use Rattle.msc.specs.Listing.{Mem, NoRep, After, Chain, link, chain}
 
 module _ {A : Type 0} where
   pub mem_left : (x : A) (L M : List A) → Mem x L → Mem x (L ++ M)

@@ -1,13 +1,12 @@
 -- The names that are picked, one event at a time.
-use Rattle.std.proofs.Common.{◌≡◌, ℕ, zero, suc, ◌+◌, ◌<◌, ◌≤◌, Bool, true, false, cond, not, ◌&&◌, ltb, List, [], ◌∷◌, ◌++◌, length, get_or, take, drop, set, sym, refl, ap, ◌∙◌, arith}
+use Rattle.std.proofs.Common.{◌≡◌, ℕ, zero, suc, ◌+◌, ◌<◌, ◌≤◌, Bool, true, false, ltb, List, [], ◌∷◌, length, get_or, take, drop, set, sym, ap, ◌∙◌, arith}
 use Rattle.std.specs.Str.{bytes_eq}
-use Rattle.std.proofs.lemmas.List.{drop_more, drop_all, take_more}
-use Rattle.std.proofs.lemmas.Bool.{eq-eqb, ne_eqb, lt-ltb, cond-true, both_ways}
+use Rattle.std.proofs.lemmas.List.{drop_more, drop_all}
+use Rattle.std.proofs.lemmas.Bool.{eq-eqb, ne_eqb, lt-ltb, cond-true}
 use Rattle.msc.specs.Events.{out_to, in_from, picked}
 use Rattle.msc.specs.declared.event.Event.{Event}
 use Rattle.msc.specs.declared.event.Event.TheVariants.{Out, In}
 use Rattle.order.specs.Charts.{playable, can_play}
-use Rattle.order.proofs.Drawn.{picked-++}
 
 module _ (f : Event → List ℕ) (es : List Event) (i : ℕ) where
   pub picked-here : (d : Event) (x : ℕ) → i < length es → x ∷ [] ≡ f (get_or es i d) → picked f (drop i es) ≡ x ∷ picked f (drop (i + 1) es)

@@ -1,5 +1,5 @@
 -- Searches and repetitions that the checks are made of.
-use Rattle.std.specs.Prelude.{ℕ, zero, suc, Bool, true, false, cond, ◌&&◌, List, [], ◌∷◌, Some, None, Option}
+use Rattle.std.specs.Prelude.{ℕ, zero, suc, Bool, true, cond, ◌&&◌, List, [], ◌∷◌, Some, None, Option}
 
 -- the lowest of the n numbers from k on that passes a test
 unfoldable pub lowest : (ℕ → Bool) → ℕ → ℕ → Option ℕ

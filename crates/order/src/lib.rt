@@ -1,4 +1,6 @@
 // The order of a chart's events: whether its messages match, whether its events can be listed, and who begins it.
+#![tactic(auto)]
+
 pub mod leaders;
 pub mod listing;
 mod look;

@@ -1,5 +1,5 @@
 -- Numbers of message and action names, in a draft.
-use Rattle.std.proofs.Common.{◌≡◌, ℕ, Bool, true, false, cond, ltb, List, [], ◌∷◌, ◌++◌, length, Some, None, Ok, Err, Option, Result, refl, ap, ◌∙◌}
+use Rattle.std.proofs.Common.{◌≡◌, ℕ, Bool, true, false, cond, ltb, List, [], ◌∷◌, ◌++◌, length, Some, None, Ok, Err, Option, Result, refl}
 use Rattle.msc.specs.Spelling.{place}
 use Rattle.lexis.specs.Steps.{Step, got, bad, and_then}
 use Rattle.lexis.specs.Readers.{step_of}

@@ -1,5 +1,5 @@
 -- The turns at the events of an instance i in a draft d, behind a first word at q; the repetition stays shut.
-use Rattle.std.specs.Prelude.{ℕ, Bool, true, false, cond, List}
+use Rattle.std.specs.Prelude.{ℕ, Bool, false, cond, List}
 use Rattle.msc.specs.declared.event.Event.TheVariants.{Out, In}
 use Rattle.msc.specs.declared.words.Keyword.TheVariants as keyword
 use Rattle.lexis.specs.Steps.{Step, got, bad, and_then, repeat}

@@ -1,5 +1,5 @@
 -- Where a restorer begins: nothing waits, and for each pair one stamp is due and next.
-use Rattle.std.proofs.Common.{◌≡◌, ℕ, zero, suc, ◌+◌, ◌-◌, ◌*◌, ◌<◌, true, false, ltb, List, [], map, length, get_or, replicate, sym, refl, ap, ◌∙◌, ⊎_elim, arith}
+use Rattle.std.proofs.Common.{◌≡◌, ℕ, zero, suc, ◌+◌, ◌*◌, ◌<◌, true, false, ltb, List, [], map, length, get_or, replicate, sym, refl, ap, ◌∙◌, ⊎_elim, arith}
 use Rattle.std.specs.List.{range_with_len}
 use Rattle.std.proofs.lemmas.Bool.{cases_Bool, le-ltb, cond-false}
 use Rattle.channel.specs.Waits.{is_pair}

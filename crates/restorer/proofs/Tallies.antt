@@ -1,7 +1,9 @@
 -- How often a stamp stands in a list, and that the order of the list does not matter.
-use Rattle.std.proofs.Common.{◌≡◌, ℕ, zero, suc, ◌+◌, ◌<◌, true, false, cond, List, [], ◌∷◌, ◌++◌, length, get_or, take, Ok, Contains, sum_by, sym, refl, ap, ◌∙◌, ⊎_elim, add-one, arith}
+use Rattle.std.proofs.Common.{◌≡◌, ℕ, zero, suc, ◌+◌, ◌<◌, true, false, cond, List, [], ◌∷◌, ◌++◌, length, get_or, take, Ok, sum_by, sym, refl, ap, ◌∙◌, ⊎_elim, add-one, arith}
+use Rattle.std.specs.List.{ContainsAt}
 use Rattle.std.specs.List.Sorted.{IsPermutation}
 use Rattle.std.proofs.lemmas.List.Sorted.{sum_by-IsPermutation, Contains-permutation}
+use Rattle.std.proofs.lemmas.List.Elements.{Contains-from_at, at_from_Contains}
 use Rattle.std.proofs.lemmas.List.Sums.{sum_by-cons}
 use Rattle.std.proofs.lemmas.Bool.{cases_Bool}
 use Rattle.bag.specs.declared.Stamped.{Stamped}
@@ -26,7 +28,7 @@ module _ (f t s : ℕ) where
   has-tally (y ∷ ys) zero x lt at e = let h : carries f t s y ≡ true = rw (at y) e in rw h (omega arith)
   has-tally (y ∷ ys) (suc k) x lt at e = let ih = has-tally ys k x (omega arith) at e in omega arith
 
-  member : (xs : List Stamped) → 0 < tally f t s xs → (x : Stamped) × Contains xs x × (carries f t s x ≡ true)
+  member : (xs : List Stamped) → 0 < tally f t s xs → (x : Stamped) × ContainsAt xs x × (carries f t s x ≡ true)
   member [] h = absurd (omega arith)
   member (x ∷ xs) h =
       ⊎_elim
@@ -53,7 +55,7 @@ module _ (f t s : ℕ) where
   pub letter_shuffled : (xs ys : List Stamped) → IsPermutation xs ys → tally f t s xs ≡ 1 → letter_at f t s ys ≡ letter_at f t s xs
   letter_shuffled xs ys h n =
       let m = member xs (omega arith) in
-      let a = Contains-permutation xs ys m.0 h m.1 in
+      let a = at_from_Contains ys m.0 (Contains-permutation xs ys m.0 h (Contains-from_at xs m.0 m.1)) in
       let k = tally_shuffled xs ys h ∙ n in
       unique ys a.0 m.0 a.1 a.2 m.2 k ∙ sym (unique xs m.1.0 m.0 m.1.1 m.1.2 m.2 n)
 

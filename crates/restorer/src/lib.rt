@@ -1,5 +1,7 @@
 // A restorer: a channel over any bag. It numbers the letters of each pair, and hands them out in
 // the order of their numbers, however the bag has reordered them.
+#![tactic(auto)]
+
 ghost use Rattle.std.specs.Prelude.{◌≡◌, ◌+◌, ◌*◌, ◌<◌};
 ghost use Rattle.restorer.specs.Stamps.{carries, sought_in};
 ghost use Rattle.restorer.specs.Restored.{waits_in, room_in, Sound, Made};
@@ -21,14 +23,14 @@ pub struct Restorer<B: Bag> {
 impl<B: Bag> Restorer<B> {
     // A restorer over the bag, which is emptied.
     pub fn new(bag: B) -> Restorer<B>
-        ensures { sound bag → Made B.Bag bag 0 result }
+        ensures { B.sound bag → Made B.Bag bag 0 result }
     {
         Restorer::starting_at(bag, 0)
     }
 
     // The same, with another first stamp for each pair.
     pub fn starting_at(bag: B, stamp: u32) -> Restorer<B>
-        ensures { sound bag → Made B.Bag bag stamp result }
+        ensures { B.sound bag → Made B.Bag bag stamp result }
     {
         let mut bag = bag;
         empty_bag(&mut bag);
@@ -56,7 +58,7 @@ fn is_sought(item: Stamped, from: u8, to: u8, stamp: u32) -> bool
 
 // The place of the first item that is the letter of the pair with the stamp.
 fn seek<B: Bag>(bag: &B, from: u8, to: u8, stamp: u32) -> Option<u16>
-    ensures { sound bag.now → result ≡ sought_in from to stamp (held bag.now) }
+    ensures { B.sound bag.now → result ≡ sought_in from to stamp (B.held bag.now) }
 {
     let n = bag.count();
     for i in 0..n {

@@ -1,5 +1,7 @@
 // Reads, writes and judges each text of a list, and prints a line for each: its name, what reading says and what the judge says.
 // A document whose text is not the one beside it is told so.
+#![tactic(auto)]
+
 use judge::accepted::{Accepted, judge};
 use msc::document::Document;
 use msc::words::Words;

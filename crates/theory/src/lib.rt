@@ -1,5 +1,7 @@
 // The order of events along a path: laws of projections, cuts and queues. A function's contract is the law that it answers.
 // F is what a letter carries besides its header.
+#![tactic(auto)]
+
 pub mod law;
 
 ghost use Rattle.std.specs.Prelude.{◌≡◌};

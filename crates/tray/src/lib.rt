@@ -1,5 +1,7 @@
 // A tray: a bag of at most 32 letters, in fixed memory, that fills the gap of a letter taken with
 // its last one.
+#![tactic(auto)]
+
 ghost use Rattle.std.specs.Prelude.{◌≡◌, [], ◌==◌};
 ghost use Rattle.bag.specs.Calls.{Put, Take};
 ghost use Rattle.tray.specs.Tray.{letters_in, space_of, Sound, after_put, after_take};

@@ -1,4 +1,6 @@
 // A twin: a bag made of two bags of any make, its links.
+#![tactic(auto)]
+
 ghost use Rattle.std.specs.Prelude.{◌≡◌};
 ghost use Rattle.bag.specs.Calls.{Put, Take};
 ghost use Rattle.twin.specs.Twin.{held_by, space_of, Sound, is_full, first_takes, Made, Placed, Removed};

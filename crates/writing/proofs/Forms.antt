@@ -2,7 +2,6 @@
 use Rattle.std.proofs.Common.{◌≡◌, ℕ, zero, suc, ◌+◌, ◌≤◌, true, List, [], ◌∷◌, ◌++◌, map, length, get_or, drop, sym, refl, ap, ◌∙◌, add-one, arith}
 use Rattle.std.proofs.lemmas.List.{drop_all, nil_from_length}
 use Rattle.std.specs.List.{flat_map}
-use Rattle.msc.specs.Doc as doc
 use Rattle.msc.specs.Doc.{chart_names, label_names}
 use Rattle.msc.specs.Meaning.{no_chart}
 use Rattle.msc.specs.Rows.{name_of}

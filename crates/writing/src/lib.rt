@@ -1,4 +1,6 @@
 // Writing: the shortest text of a document.
+#![tactic(auto)]
+
 mod append;
 mod charts;
 mod graph;

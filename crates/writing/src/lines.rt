@@ -31,7 +31,7 @@ impl Pen {
 
 // The name of a row; empty past the last.
 pub(crate) fn name_at<T: Named>(rows: &[T], n: usize) -> &[u8]
-    ensures { result.now ≡ slice_index_or (map called rows.now) n [] }
+    ensures { result.now ≡ slice_index_or (map T.called rows.now) n [] }
 {
     if n < rows.len() { rows[n].word() } else { &[] }
 }

@@ -62,7 +62,7 @@ mod tests {
         assert!(rt; n == 119);
         assert_eq!(rt;
             &out[0..119],
-            b"mscdocument D;inst I;msc C;instance I;action a;endinstance;endmsc;msc H;expr N;N:(C)seq(E);E:end;endmsc;endmscdocument;"
+            b"mscdocument D;inst I;msc C;instance I;action a;endinstance;endmsc;msc H;expr N;N:(C)seq(E);E:end;endmsc;endmscdocument;".as_slice()
         );
         assert!(rt; out[119] == b'.');
         Ok(())

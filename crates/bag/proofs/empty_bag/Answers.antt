@@ -10,10 +10,10 @@ loop-done-preserved g c = λ s.
     let b = g.B.Bag in
     let n = c.count-n.ensures s in
     let l = c.loop-done.invariant s in
-    left_more b.sound b.held b.space c.args.bag.now c.loop-done.bag _ c.loop-done.-done _ l (omega arith) (c.take.ensures l.stays)
+    left_more b.sound b.held b.space c.args.bag.now c.loop-done.bag _ c.loop-done._done _ l (omega arith) (c.take.ensures l.stays)
 
 pub returns : goal.returns
 returns g c = λ s.
     let b = g.B.Bag in
     let n = c.count-n.ensures s in
-    left-all b.sound b.held b.space c.args.bag.now c.loop-done.bag c.loop-done.-done (c.loop-done.invariant s) (omega arith)
+    left-all b.sound b.held b.space c.args.bag.now c.loop-done.bag c.loop-done._done (c.loop-done.invariant s) (omega arith)

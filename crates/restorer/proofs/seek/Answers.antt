@@ -4,19 +4,19 @@ use Rattle.restorer.specs.Stamps.{tally}
 use Rattle.restorer.proofs.Tallies.{tally-next}
 use Rattle.restorer.proofs.Seeks.{none_sought, here_sought}
 use Rattle.restorer.proofs.seek.Goals as goal
-use Rattle.restorer.proofs.seek.Goals.{in-Ok+else-is-sought, in-default}
+use Rattle.restorer.proofs.seek.Goals.{in-Ok+else-is_sought, in_default}
 
-pub returns-then-is-sought : goal.returns-then-is-sought
-returns-then-is-sought g c = λ s.
-    here_sought c.args.from c.args.to c.args.stamp (g.B.Bag.held c.args.bag.now) c.loop-i.i c.in-Ok.item (c.loop-i.invariant s) (sym (c.in-Ok.ensures s)) (sym c.if-is-sought.ensures)
+pub returns-then-is_sought : goal.returns-then-is_sought
+returns-then-is_sought g c = λ s.
+    here_sought c.args.from c.args.to c.args.stamp (g.B.Bag.held c.args.bag.now) c.loop-i.i c.in-Ok.item (c.loop-i.invariant s) (sym (c.in-Ok.ensures s)) (sym c.if-is_sought.ensures)
 
 pub loop-i-preserved : goal.loop-i-preserved
 loop-i-preserved g c = λ s.
     let xs = g.B.Bag.held c.args.bag.now in
     let n = c.count-n.ensures s in
     elim c.match-show.branch [
-      | in-Ok+else-is-sought v ↦ tally-next c.args.from c.args.to c.args.stamp xs c.loop-i.i v.in-Ok.item (sym (v.in-Ok.ensures s)) (sym v.if-is-sought.ensures) (c.loop-i.invariant s)
-      | in-default v ↦ let y = shown_there xs c.loop-i.i (omega arith) in absurd (v.in-default.not-Ok y.0 (c.show.ensures s ∙ y.1))
+      | in-Ok+else-is_sought v ↦ tally-next c.args.from c.args.to c.args.stamp xs c.loop-i.i v.in-Ok.item (sym (v.in-Ok.ensures s)) (sym v.if-is_sought.ensures) (c.loop-i.invariant s)
+      | in_default v ↦ let y = shown_there xs c.loop-i.i (omega arith) in absurd (v.in_default.not-Ok y.0 (c.show.ensures s ∙ y.1))
     ]
 
 pub returns : goal.returns

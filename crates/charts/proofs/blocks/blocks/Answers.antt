@@ -10,24 +10,24 @@ pub loop-i-init : goal.loop-i-init
 unfolding blocks_in
 loop-i-init c = (refl, refl)
 
-pub returns-in-err-block-turn : goal.returns-in-err-block-turn
-returns-in-err-block-turn c =
-    let p = err_from_is_err_and c.from-residual.result c.from-residual.ensures.1 in
+pub returns-in_err-block_turn : goal.returns-in_err-block_turn
+returns-in_err-block_turn c =
+    let p = err_from_is_err_and c.from_residual.result c.from_residual.ensures.1 in
     record {
-      says = rw (p.1, p.2) (refuses (block_turn_in (words_of c.args.words.now)) (9 - c.loop-i.i) (draft_of c.loop-i.draft) _ _ _ c.loop-i.invariant.0 (8 - c.loop-i.i) (omega arith) _ c.in-err-block-turn.ensures.says);
-      charts = c.block-turn.ensures.charts ∙ c.loop-i.invariant.1;
+      says = rw (p.1, p.2) (refuses (block_turn_in (words_of c.args.words.now)) (9 - c.loop-i.i) (draft_of c.loop-i.draft) _ _ _ c.loop-i.invariant.0 (8 - c.loop-i.i) (omega arith) _ c.in_err-block_turn.ensures.says);
+      charts = c.block_turn.ensures.charts ∙ c.loop-i.invariant.1;
     }
 
 pub returns-then-branch : goal.returns-then-branch
 returns-then-branch c = record {
-  says = ends (block_turn_in (words_of c.args.words.now)) (9 - c.loop-i.i) _ _ _ _ c.loop-i.invariant.0 (8 - c.loop-i.i) (omega arith) _ _ c.if-branch.true _ _ c.in-ok-block-turn.ensures.says;
-  charts = c.block-turn.ensures.charts ∙ c.loop-i.invariant.1;
+  says = ends (block_turn_in (words_of c.args.words.now)) (9 - c.loop-i.i) _ _ _ _ c.loop-i.invariant.0 (8 - c.loop-i.i) (omega arith) _ _ c.if-branch.true _ _ c.in_ok-block_turn.ensures.says;
+  charts = c.block_turn.ensures.charts ∙ c.loop-i.invariant.1;
 }
 
 pub loop-i-preserved : goal.loop-i-preserved
 loop-i-preserved c = (
-  more (block_turn_in (words_of c.args.words.now)) (9 - c.loop-i.i) _ _ _ _ c.loop-i.invariant.0 _ (omega arith) _ _ c.if-branch.false _ _ c.in-ok-block-turn.ensures.says,
-  c.block-turn.ensures.charts ∙ c.loop-i.invariant.1,
+  more (block_turn_in (words_of c.args.words.now)) (9 - c.loop-i.i) _ _ _ _ c.loop-i.invariant.0 _ (omega arith) _ _ c.if-branch.false _ _ c.in_ok-block_turn.ensures.says,
+  c.block_turn.ensures.charts ∙ c.loop-i.invariant.1,
 )
 
 pub returns : goal.returns

@@ -13,24 +13,24 @@ pub loop-i-init : goal.loop-i-init
 unfolding charts_in
 loop-i-init c = refl
 
-pub returns-in-err-name : goal.returns-in-err-name
-returns-in-err-name c =
-    let p = err_from_is_err_and c.from-residual.result c.from-residual.ensures.1 in
-    rw (p.1, p.2) (refuses (chart_turn_in (words_of c.args.words.now)) (65 - c.loop-i.i) (draft_of c.loop-i.draft, []) _ _ _ c.loop-i.invariant (64 - c.loop-i.i) (omega arith) _ c.in-err-name.ensures)
+pub returns-in_err-name : goal.returns-in_err-name
+returns-in_err-name c =
+    let p = err_from_is_err_and c.from_residual.result c.from_residual.ensures.1 in
+    rw (p.1, p.2) (refuses (chart_turn_in (words_of c.args.words.now)) (65 - c.loop-i.i) (draft_of c.loop-i.draft, []) _ _ _ c.loop-i.invariant (64 - c.loop-i.i) (omega arith) _ c.in_err-name.ensures)
 
 pub returns-in-Some : goal.returns-in-Some
 returns-in-Some c =
-    let d = draft_of c.chart-turn.new.draft in
-    let r = c.chart-turn.new.reader in
+    let d = draft_of c.chart_turn.new.draft in
+    let r = c.chart_turn.new.reader in
     ends (chart_turn_in (words_of c.args.words.now)) (65 - c.loop-i.i) (draft_of c.loop-i.draft, []) _ _ _ c.loop-i.invariant (64 - c.loop-i.i) (omega arith) (d, name_of c.in-Some.name) true refl r.at (drop r.at r.text.now)
-    (ap (λ (o : Option Name). got (turned d o) r.at (drop r.at r.text.now)) (sym c.in-Some.is) ∙ c.in-ok-name.ensures)
+    (ap (λ (o : Option Name). got (turned d o) r.at (drop r.at r.text.now)) (sym c.in-Some.is) ∙ c.in_ok-name.ensures)
 
 pub loop-i-preserved : goal.loop-i-preserved
 loop-i-preserved c =
-    let d = draft_of c.chart-turn.new.draft in
-    let r = c.chart-turn.new.reader in
+    let d = draft_of c.chart_turn.new.draft in
+    let r = c.chart_turn.new.reader in
     more (chart_turn_in (words_of c.args.words.now)) (65 - c.loop-i.i) (draft_of c.loop-i.draft, []) _ _ _ c.loop-i.invariant _ (omega arith) (d, []) false refl r.at (drop r.at r.text.now)
-    (ap (λ (o : Option Name). got (turned d o) r.at (drop r.at r.text.now)) (sym c.in-default.is) ∙ c.in-ok-name.ensures)
+    (ap (λ (o : Option Name). got (turned d o) r.at (drop r.at r.text.now)) (sym c.in_default.is) ∙ c.in_ok-name.ensures)
 
 pub returns : goal.returns
 returns c = runs_out (chart_turn_in (words_of c.args.words.now)) (65 - c.loop-i.i) (draft_of c.loop-i.draft, []) _ _ _ c.loop-i.invariant (omega arith)

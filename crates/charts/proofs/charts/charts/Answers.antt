@@ -5,4 +5,4 @@ use Rattle.charts.proofs.Opened.{same_charts}
 use Rattle.charts.proofs.charts.charts.Goals as goal
 
 pub returns : goal.returns
-returns c = c.all-charts.ensures ∙ same_charts (words_of c.args.words.now) (draft_of c.args.draft.now) c.args.reader.now
+returns c = c.all_charts.ensures ∙ same_charts (words_of c.args.words.now) (draft_of c.args.draft.now) c.args.reader.now

@@ -1,8 +1,8 @@
-use Rattle.std.proofs.Common.{◌≡◌, ◌-◌, [], ◌∷◌}
+use Rattle.std.proofs.Common.{◌≡◌, ◌-◌}
 use Rattle.lexis.specs.Readers.{words_of, from}
 use Rattle.lexis.specs.Steps.{repeat}
 use Rattle.forms.specs.Reading.{alt_turn}
-use Rattle.graph.specs.Lines.{mention_of, mentions_of}
+use Rattle.graph.specs.Lines.{mentions_of}
 use Rattle.graph.proofs.grammar.alts.Given as goal
 
 -- what is left comes to what the whole comes to

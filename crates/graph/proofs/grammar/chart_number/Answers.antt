@@ -5,5 +5,5 @@ use Rattle.std.proofs.lemmas.List.{length-map}
 use Rattle.graph.proofs.Rows.{place-below}
 use Rattle.graph.proofs.grammar.chart_number.Goals as goal
 
-pub overflow-cast-result : goal.overflow-cast-result
-overflow-cast-result c = omega (arith, place-below 0 (map (λ (x : Chart). name_of x.name) c.args.charts.now) _ _ (sym c.in-Some.ensures), length-map c.args.charts.now (λ (x : Chart). name_of x.name))
+pub overflow_cast-result : goal.overflow_cast-result
+overflow_cast-result c = omega (arith, place-below 0 (map (λ (x : Chart). name_of x.name) c.args.charts.now) _ _ (sym c.in-Some.ensures), length-map c.args.charts.now (λ (x : Chart). name_of x.name))

@@ -1,4 +1,4 @@
-use Rattle.std.proofs.Common.{◌≡◌, [], ◌∷◌, ◌++◌, take, sym, refl, ap, ◌∙◌, zero-add, arith, length-set}
+use Rattle.std.proofs.Common.{◌≡◌, [], ◌∷◌, ◌++◌, sym, refl, ap, ◌∙◌, zero-add, arith, length-set}
 use Rattle.std.proofs.lemmas.List.{take_more_set, take_all}
 use Rattle.order.specs.Charts.{leader_of}
 use Rattle.judge.specs.Checks.{leaders_from, list_leaders}
@@ -12,11 +12,11 @@ loop-x-init c = (refl, refl)
 
 pub loop-x-preserved : goal.loop-x-preserved
 loop-x-preserved c = (
-  take_more_set c.loop-x.leaders c.loop-x.x c.leader-of.result (omega (arith, c.loop-x.invariant.1))
-      ∙ ap (λ ls. ls ++ c.leader-of.result ∷ []) c.loop-x.invariant.0
-      ∙ ap (λ o. leaders_from (meant c.args.document.now) 0 c.loop-x.x ++ o ∷ []) (c.leader-of.ensures ∙ ap leader_of (c.list-leaders.ensures ∙ ap (list_leaders (meant c.args.document.now)) (sym (zero-add c.loop-x.x))))
+  take_more_set c.loop-x.leaders c.loop-x.x c.leader_of.result (omega (arith, c.loop-x.invariant.1))
+      ∙ ap (λ ls. ls ++ c.leader_of.result ∷ []) c.loop-x.invariant.0
+      ∙ ap (λ o. leaders_from (meant c.args.document.now) 0 c.loop-x.x ++ o ∷ []) (c.leader_of.ensures ∙ ap leader_of (c.list_leaders.ensures ∙ ap (list_leaders (meant c.args.document.now)) (sym (zero-add c.loop-x.x))))
       ∙ sym (leaders_more (meant c.args.document.now) 0 c.loop-x.x),
-  length-set c.loop-x.leaders c.loop-x.x c.leader-of.result ∙ c.loop-x.invariant.1,
+  length-set c.loop-x.leaders c.loop-x.x c.leader_of.result ∙ c.loop-x.invariant.1,
 )
 
 pub returns : goal.returns

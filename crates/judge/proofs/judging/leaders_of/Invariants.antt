@@ -1,4 +1,4 @@
-use Rattle.std.proofs.Common.{◌≡◌, ◌-◌, length, take}
+use Rattle.std.proofs.Common.{◌≡◌, length, take}
 use Rattle.judge.specs.Checks.{leaders_from}
 use Rattle.order.specs.Meant.{meant}
 use Rattle.judge.proofs.judging.leaders_of.Given as goal

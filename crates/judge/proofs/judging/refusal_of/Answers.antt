@@ -14,9 +14,9 @@ pub returns-in-Some-broken-2 : goal.returns-in-Some-broken-2
 unfolding refusal_of
 returns-in-Some-broken-2 c = search rules
 
-pub returns-in-Some-end-at-start : goal.returns-in-Some-end-at-start
+pub returns-in-Some-end_at_start : goal.returns-in-Some-end_at_start
 unfolding refusal_of
-returns-in-Some-end-at-start c = search rules
+returns-in-Some-end_at_start c = search rules
 
 pub returns-in-Some-broken-3 : goal.returns-in-Some-broken-3
 unfolding refusal_of

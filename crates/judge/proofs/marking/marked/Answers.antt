@@ -1,4 +1,4 @@
-use Rattle.std.proofs.Common.{◌≡◌, true, set, sym, refl, ◌∙◌, arith, length-set}
+use Rattle.std.proofs.Common.{true, set, sym, refl, ◌∙◌, arith, length-set}
 use Rattle.judge.specs.Checks.{next_mark, unmarked, marked}
 use Rattle.order.specs.Meant.{meant}
 use Rattle.order.proofs.Scanned.{lowest_some, repeat-next, repeat_stop, repeat_end}

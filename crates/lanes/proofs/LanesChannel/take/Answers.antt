@@ -12,7 +12,7 @@ returns-in-Some c = λ p.
     let f = c.in-Some.ensures in
     let le : r.len ≤ length r.slots = omega arith in
     let e = c.close.ensures in
-    take_done Sound waits_of room_of r _ c.args.from c.args.to _ (sym c.if-not-is-pair.ensures)
+    take_done Sound waits_of room_of r _ c.args.from c.args.to _ (sym c.if-not-is_pair.ensures)
     (first_in r.slots r.len i blank f.0 le c.args.from c.args.to f.1 (f.2 blank))
     (rw e (pairs_removed (take r.len r.slots) i p))
     refl

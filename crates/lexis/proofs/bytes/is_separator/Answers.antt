@@ -4,4 +4,4 @@ use Rattle.lexis.proofs.Table.{separates}
 use Rattle.lexis.proofs.bytes.is_separator.Goals as goal
 
 pub returns : goal.returns
-returns c = c.separates.ensures ∙ ap is_separator c.class-of.ensures ∙ separates _ c.ranges.b.fits
+returns c = c.separates.ensures ∙ ap is_separator c.class_of.ensures ∙ separates _ c.ranges.b.fits

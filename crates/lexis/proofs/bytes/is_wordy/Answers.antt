@@ -4,4 +4,4 @@ use Rattle.lexis.proofs.Table.{in_words}
 use Rattle.lexis.proofs.bytes.is_wordy.Goals as goal
 
 pub returns : goal.returns
-returns c = c.in-words.ensures ∙ ap is_wordy c.class-of.ensures ∙ in_words _ c.ranges.b.fits
+returns c = c.in_words.ensures ∙ ap is_wordy c.class_of.ensures ∙ in_words _ c.ranges.b.fits

@@ -1,4 +1,4 @@
-use Rattle.std.proofs.Common.{◌≡◌, ℕ, ◌+◌, ◌≤◌, get_or, sym, refl, ◌∙◌, arith, length-set}
+use Rattle.std.proofs.Common.{◌+◌, get_or, sym, refl, ◌∙◌, arith, length-set}
 use Rattle.order.specs.Charts.{ready, can_play, advanced, played}
 use Rattle.order.specs.Meant.{meant}
 use Rattle.order.proofs.Greedy.{nothing}
@@ -13,8 +13,8 @@ loop-init c = (refl, refl, λ j. omega (arith, nothing j))
 pub bounds-done-i : goal.bounds-done-i
 bounds-done-i c = let f = lowest_some (can_play ((meant c.args.document.now).drawn c.args.chart) c.loop.done) 0 8 c.in-Some.i (sym c.in-Some.ensures) in omega (arith, f.to)
 
-pub overflow-add-done : goal.overflow-add-done
-overflow-add-done c = omega (arith, c.loop.invariant.2 c.in-Some.i, c.loop-test.true)
+pub overflow_add-done : goal.overflow_add-done
+overflow_add-done c = omega (arith, c.loop.invariant.2 c.in-Some.i, c.loop-test.true)
 
 pub bounds-done-i-in-Some : goal.bounds-done-i-in-Some
 bounds-done-i-in-Some c = let f = lowest_some (can_play ((meant c.args.document.now).drawn c.args.chart) c.loop.done) 0 8 c.in-Some.i (sym c.in-Some.ensures) in omega (arith, f.to)

@@ -1,14 +1,14 @@
-use Rattle.std.proofs.Common.{◌≡◌, sym, ◌∙◌, arith}
+use Rattle.std.proofs.Common.{arith}
 use Rattle.msc.specs.Events.{out_to}
 use Rattle.msc.specs.declared.event.Event.TheVariants.{Out}
 use Rattle.order.proofs.Walks.{count_yes, count_no, count_ends}
 use Rattle.order.proofs.listing.sent.Goals as goal
-use Rattle.order.proofs.listing.sent.Goals.{in-Some, in-default}
+use Rattle.order.proofs.listing.sent.Goals.{in-Some, in_default}
 
 pub loop-e-preserved : goal.loop-e-preserved
-loop-e-preserved c = elim c.match-out-to.branch [
+loop-e-preserved c = elim c.match-out_to.branch [
   | in-Some w ↦ (omega (arith, w.n-is, count_yes (out_to c.args.receiver) c.args.events.now c.loop-e.e-index c.loop-e.n c.loop-e.invariant.0 (Out 0 0) w.in-Some.field-0 c.loop-e-test.true w.in-Some.ensures), omega (arith, w.n-is, c.loop-e.invariant.1))
-  | in-default w ↦ (omega (arith, w.n-is, count_no (out_to c.args.receiver) c.args.events.now c.loop-e.e-index c.loop-e.n c.loop-e.invariant.0 (Out 0 0) c.loop-e-test.true w.in-default.ensures), omega (arith, w.n-is, c.loop-e.invariant.1))
+  | in_default w ↦ (omega (arith, w.n-is, count_no (out_to c.args.receiver) c.args.events.now c.loop-e.e-index c.loop-e.n c.loop-e.invariant.0 (Out 0 0) c.loop-e-test.true w.in_default.ensures), omega (arith, w.n-is, c.loop-e.invariant.1))
 ]
 
 pub returns : goal.returns

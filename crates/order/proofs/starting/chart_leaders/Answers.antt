@@ -1,5 +1,5 @@
-use Rattle.std.proofs.Common.{◌≡◌, ◌+◌, ◌-◌, sym, ap, ◌∙◌}
-use Rattle.order.specs.Charts.{starts, starters, gathered, joined_by}
+use Rattle.std.proofs.Common.{◌+◌, ◌-◌, sym, ap, ◌∙◌}
+use Rattle.order.specs.Charts.{starts, starters, gathered}
 use Rattle.order.specs.Meant.{meant}
 use Rattle.order.proofs.Tallies.{gather_yes, gather_no, gather_end}
 use Rattle.order.proofs.starting.chart_leaders.Goals as goal

@@ -11,27 +11,27 @@ pub loop-i-init : goal.loop-i-init
 unfolding events_in
 loop-i-init c = (refl, refl, refl)
 
-pub returns-in-err-event-turn : goal.returns-in-err-event-turn
-returns-in-err-event-turn c =
-    let p = err_from_is_err_and c.from-residual.result c.from-residual.ensures.1 in
+pub returns-in_err-event_turn : goal.returns-in_err-event_turn
+returns-in_err-event_turn c =
+    let p = err_from_is_err_and c.from_residual.result c.from_residual.ensures.1 in
     record {
-      says = rw (p.1, p.2) (refuses (event_turn (words_of c.args.words.now) c.args.own) (65 - c.loop-i.i) (draft_of c.loop-i.draft) _ _ _ c.loop-i.invariant.0 (64 - c.loop-i.i) (omega arith) _ c.in-err-event-turn.ensures.says);
-      parts = c.event-turn.ensures.parts ∙ c.loop-i.invariant.1;
-      charts = c.event-turn.ensures.charts ∙ c.loop-i.invariant.2;
+      says = rw (p.1, p.2) (refuses (event_turn (words_of c.args.words.now) c.args.own) (65 - c.loop-i.i) (draft_of c.loop-i.draft) _ _ _ c.loop-i.invariant.0 (64 - c.loop-i.i) (omega arith) _ c.in_err-event_turn.ensures.says);
+      parts = c.event_turn.ensures.parts ∙ c.loop-i.invariant.1;
+      charts = c.event_turn.ensures.charts ∙ c.loop-i.invariant.2;
     }
 
 pub returns-then-branch : goal.returns-then-branch
 returns-then-branch c = record {
-  says = ends (event_turn (words_of c.args.words.now) c.args.own) (65 - c.loop-i.i) _ _ _ _ c.loop-i.invariant.0 (64 - c.loop-i.i) (omega arith) _ _ c.if-branch.true _ _ c.in-ok-event-turn.ensures.says;
-  parts = c.event-turn.ensures.parts ∙ c.loop-i.invariant.1;
-  charts = c.event-turn.ensures.charts ∙ c.loop-i.invariant.2;
+  says = ends (event_turn (words_of c.args.words.now) c.args.own) (65 - c.loop-i.i) _ _ _ _ c.loop-i.invariant.0 (64 - c.loop-i.i) (omega arith) _ _ c.if-branch.true _ _ c.in_ok-event_turn.ensures.says;
+  parts = c.event_turn.ensures.parts ∙ c.loop-i.invariant.1;
+  charts = c.event_turn.ensures.charts ∙ c.loop-i.invariant.2;
 }
 
 pub loop-i-preserved : goal.loop-i-preserved
 loop-i-preserved c = (
-  more (event_turn (words_of c.args.words.now) c.args.own) (65 - c.loop-i.i) _ _ _ _ c.loop-i.invariant.0 _ (omega arith) _ _ c.if-branch.false _ _ c.in-ok-event-turn.ensures.says,
-  c.event-turn.ensures.parts ∙ c.loop-i.invariant.1,
-  c.event-turn.ensures.charts ∙ c.loop-i.invariant.2,
+  more (event_turn (words_of c.args.words.now) c.args.own) (65 - c.loop-i.i) _ _ _ _ c.loop-i.invariant.0 _ (omega arith) _ _ c.if-branch.false _ _ c.in_ok-event_turn.ensures.says,
+  c.event_turn.ensures.parts ∙ c.loop-i.invariant.1,
+  c.event_turn.ensures.charts ∙ c.loop-i.invariant.2,
 )
 
 pub returns : goal.returns

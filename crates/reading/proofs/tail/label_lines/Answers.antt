@@ -1,4 +1,4 @@
-use Rattle.std.proofs.Common.{◌≡◌, ℕ, List, ap, ◌∙◌}
+use Rattle.std.proofs.Common.{ℕ, List, ap, ◌∙◌}
 use Rattle.msc.specs.Rows.{items_of}
 use Rattle.lexis.specs.Readers.{words_of, from}
 use Rattle.forms.specs.Reading.{lines_at}

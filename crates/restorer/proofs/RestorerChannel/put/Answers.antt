@@ -8,8 +8,8 @@ pub returns : goal.returns
 returns g c = λ s.
     let b = g.B.Bag in
     let r = c.args.self.now in
-    let e = c.in-ok-put.ensures s.bag in
-    let pair = sym c.if-not-is-pair.ensures in
+    let e = c.in_ok-put.ensures s.bag in
+    let pair = sym c.if-not-is_pair.ensures in
     let few = le_trans (g.met.B.Bag.within r.bag s.bag) (g.met.B.Bag.most r.bag s.bag) in
     put_done (Sound b) (waits_in b) (room_in b) r _ c.args.from c.args.to _ pair
     (λ full. not_full _ _ e.answer (sym s.kept.count ∙ full))

@@ -10,11 +10,11 @@ pub returns : goal.returns
 returns c =
     let t = c.args.self.now in
     let x = c.args.item in
-    let space = eqb-false t.len 32 (sym c.if-is-full.ensures) in
+    let space = eqb-false t.len 32 (sym c.if-is_full.ensures) in
     let lt : t.len < length t.items = omega arith in
     let long = length-take-le t.len t.items (omega arith) in
     let e = take_more_set t.items t.len x lt in
     record {
-      0 = λ _. put_done Sound letters_in space_of t _ x (λ full. space (omega arith)) tt refl (put_shuffled (letters_in t) _ x e);
+      put = λ _. put_done Sound letters_in space_of t _ x (λ full. space (omega arith)) tt refl (put_shuffled (letters_in t) _ x e);
       exact = e ∙ put_last (letters_in t) x (λ full. space (omega arith));
     }

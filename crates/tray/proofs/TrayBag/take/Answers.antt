@@ -11,7 +11,7 @@ returns-then-at-n c =
     let t = c.args.self.now in
     let long = length-take-le t.len t.items (omega arith) in
     record {
-      0 = λ _. take_none Sound letters_in space_of t _ c.args.i tt refl (omega arith) refl;
+      take = λ _. take_none Sound letters_in space_of t _ c.args.i tt refl (omega arith) refl;
       exact = take_past (letters_in t) c.args.i (omega arith);
     }
 
@@ -24,6 +24,6 @@ returns c =
     let long = length-take-le t.len t.items le in
     let e = gap-written t.items t.len i _ le lt in
     record {
-      0 = λ _. take_done Sound letters_in space_of t _ i _ tt refl (shown_in t.items t.len i _ le lt) (take_shuffled t.items _ t.len i _ le lt e);
+      take = λ _. take_done Sound letters_in space_of t _ i _ tt refl (shown_in t.items t.len i _ le lt) (take_shuffled t.items _ t.len i _ le lt e);
       exact = e ∙ take-filled (letters_in t) i (omega arith);
     }

@@ -9,7 +9,7 @@ returns-then-i-n g c =
     let t = c.args.self.now in
     let i = c.args.i in
     record {
-      0 = λ s. let n = c.count-n.ensures s.first in take-first a b t s _ i _ (omega arith) (c.take.ensures s.first);
+      take = λ s. let n = c.count-n.ensures s.first in take-first a b t s _ i _ (omega arith) (c.take.ensures s.first);
       exact = λ s. let n = c.count-n.ensures s.first in removed_first a b t s _ i _ (omega arith) (c.take.ensures s.first);
     }
 
@@ -20,6 +20,6 @@ returns-else-i-n g c =
     let t = c.args.self.now in
     let i = c.args.i in
     record {
-      0 = λ s. let n = c.count-n.ensures s.first in take_second a b t s _ i _ _ n (omega arith) (c.take-else-i-n.ensures s.second);
+      take = λ s. let n = c.count-n.ensures s.first in take_second a b t s _ i _ _ n (omega arith) (c.take-else-i-n.ensures s.second);
       exact = λ s. let n = c.count-n.ensures s.first in removed_second a b t s _ i _ _ n (omega arith) (c.take-else-i-n.ensures s.second);
     }

@@ -8,7 +8,7 @@ use Rattle.writing.proofs.graph.label_name.Goals as goal
 
 pub returns-then-n-labels : goal.returns-then-n-labels
 returns-then-n-labels c =
-    c.as-bytes.ensures
+    c.as_bytes.ensures
     ∙ name_there (λ (r : Label). name_of r.name) c.args.labels.now c.args.n _ c.if-n-labels.true c.index-labels-n.is
     ∙ ap (λ (ns : List (List ℕ)). get_or ns c.args.n []) (label_names_lem c.args.labels.now)
 

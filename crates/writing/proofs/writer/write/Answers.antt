@@ -26,6 +26,6 @@ returns-then-needed-out c =
 pub returns : goal.returns
 returns c =
     let is = text-is c.args.document.now c.new-pen.result c.document.new.self c.text-text.result.now c.new-pen.ensures c.document.ensures c.text-text.ensures in
-    let both = written (doc_of c.args.document.now.tables) c.args.out.now c.text-text.result.now c.copy-from-slice.new.self is c.copy-from-slice.ensures.after c.if-needed-out.false in
+    let both = written (doc_of c.args.document.now.tables) c.args.out.now c.text-text.result.now c.copy_from_slice.new.self is c.copy_from_slice.ensures.after c.if-needed-out.false in
     let d = c.args.document.now in
     record { answer = both.0; output = both.1; back = back (doc_of d.tables) d.sound; shortest = (is_shortest (doc_of d.tables) d.sound).1 }

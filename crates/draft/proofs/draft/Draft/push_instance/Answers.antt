@@ -1,4 +1,4 @@
-use Rattle.std.proofs.Common.{ℕ, ltb, List, map, sym, ap, ◌∙◌}
+use Rattle.std.proofs.Common.{ltb, sym, ap, ◌∙◌}
 use Rattle.std.proofs.lemmas.List.{length-map}
 use Rattle.msc.specs.Rows.{items_of, name_of}
 use Rattle.draft.proofs.Held.{instances_push}

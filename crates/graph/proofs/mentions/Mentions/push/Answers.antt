@@ -1,4 +1,4 @@
-use Rattle.std.proofs.Common.{◌≡◌, map, length, take, sym, ap, ◌∙◌, arith}
+use Rattle.std.proofs.Common.{map, take, ap, ◌∙◌, arith}
 use borrow.Author.Tests.{lt-true}
 use Rattle.std.proofs.lemmas.List.{take_more_set, length-take, length-map, map_push}
 use Rattle.graph.specs.Lines.{mention_of}

@@ -1,4 +1,4 @@
-use Rattle.std.proofs.Common.{◌≡◌, ◌+◌, get_or, drop, sym, refl, ap, ◌∙◌, ⊎_elim}
+use Rattle.std.proofs.Common.{◌+◌, get_or, drop, refl, ap, ◌∙◌, ⊎_elim}
 use Rattle.std.specs.List.{prefix_len}
 use Rattle.msc.specs.Spelling.{wordy}
 use Rattle.msc.specs.Tokens.{end}
@@ -29,7 +29,7 @@ returns-in-Letter c =
           ∙ c.word.ensures.says
           ∙ ap (λ t. word_of ws p (drop p t.now) (prefix_len wordy (drop p t.now))) c.skip.ensures.same
           ∙ at_word ws _ _ c.if-at-text.false
-          ∙ inside ws _ _ _ c.skip.ensures.at _ _ c.if-at-text.false c.class-of.ensures c.in-Letter.is;
+          ∙ inside ws _ _ _ c.skip.ensures.at _ _ c.if-at-text.false c.class_of.ensures c.in-Letter.is;
       short = c.word.ensures.short;
     }
 
@@ -38,7 +38,7 @@ returns-in-Open c =
     let p = c.skip.new.self.at in
     let ws = words_of c.args.words.now in
     let at = symbol_inside ws _ _ _ c.skip.ensures.at in
-    let by = λ (k : Class). at c.class-of.result k c.if-at-text.false c.class-of.ensures in
+    let by = λ (k : Class). at c.class_of.result k c.if-at-text.false c.class_of.ensures in
     record {
       says =
           ap (λ q. step_of (λ t. (meant t, q)) c.symbol.result c.symbol.new.self) c.symbol.ensures.place
@@ -52,6 +52,6 @@ pub returns-in-Inner : goal.returns-in-Inner
 returns-in-Inner c =
     let at = inside (words_of c.args.words.now) _ _ _ c.skip.ensures.at in
     record {
-      says = ⊎_elim (at _ _ c.if-at-text.false c.class-of.ensures) (⊎_elim (at _ _ c.if-at-text.false c.class-of.ensures) (at _ _ c.if-at-text.false c.class-of.ensures)) c.in-Inner.is;
+      says = ⊎_elim (at _ _ c.if-at-text.false c.class_of.ensures) (⊎_elim (at _ _ c.if-at-text.false c.class_of.ensures) (at _ _ c.if-at-text.false c.class_of.ensures)) c.in-Inner.is;
       short = tt;
     }

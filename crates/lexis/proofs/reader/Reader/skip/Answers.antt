@@ -3,11 +3,11 @@ use Rattle.lexis.proofs.Scan.{more, stops, over}
 use Rattle.lexis.proofs.reader.Reader.skip.Goals as goal
 
 pub loop-self-preserved : goal.loop-self-preserved
-loop-self-preserved c = (c.loop-self.invariant.0, more separator _ _ _ c.loop-self.invariant.1 c.loop-self-test.true c.if-is-separator.ensures)
+loop-self-preserved c = (c.loop-self.invariant.0, more separator _ _ _ c.loop-self.invariant.1 c.loop-self-test.true c.if-is_separator.ensures)
 
-pub returns-else-is-separator : goal.returns-else-is-separator
-returns-else-is-separator c = record {
-  at = stops separator _ _ _ c.loop-self.invariant.1 c.loop-self-test.true c.if-is-separator.ensures;
+pub returns-else-is_separator : goal.returns-else-is_separator
+returns-else-is_separator c = record {
+  at = stops separator _ _ _ c.loop-self.invariant.1 c.loop-self-test.true c.if-is_separator.ensures;
   same = c.loop-self.invariant.0;
 }
 

@@ -1,4 +1,4 @@
-use Rattle.std.proofs.Common.{◌≡◌, ◌+◌, drop, refl, ap, ◌∙◌}
+use Rattle.std.proofs.Common.{◌+◌, drop, refl, ap, ◌∙◌}
 use Rattle.lexis.specs.Readers.{symbol_at}
 use Rattle.lexis.proofs.Table.{signs}
 use Rattle.lexis.proofs.reader.Reader.symbol.Goals as goal

@@ -8,5 +8,5 @@ built-in-sound : well_formed built_in ≡ true
 unfolding well_formed text_of
 built-in-sound = refl
 
-pub invariant-of-result : goal.invariant-of-result
-invariant-of-result c = (ap well_formed c.built-in-tables.ensures ∙ built-in-sound, tt)
+pub invariant_of-result : goal.invariant_of-result
+invariant_of-result c = record { sound = ap well_formed c.built_in_tables.ensures ∙ built-in-sound }

@@ -18,7 +18,7 @@ returns c =
     let d = doc_of t in
     let parts : List Tok = parts_of d 0 (get_or d.charts c.args.chart no_chart).parts in
     let close : List Tok = word keyword.Endmsc ∷ sign Semi ∷ [] in
-    let called = c.name-at.ensures ∙ ap (λ (rs : List Chart). get_or (map (λ (r : Chart). name_of r.name) rs) c.args.chart []) c.as-slice-charts.ensures ∙ chart_name (items_of t.events) 0 (items_of t.charts) c.args.chart in
+    let called = c.name_at.ensures ∙ ap (λ (rs : List Chart). get_or (map (λ (r : Chart). name_of r.name) rs) c.args.chart []) c.as_slice-charts.ensures ∙ chart_name (items_of t.events) 0 (items_of t.charts) c.args.chart in
     and_then_lem d.words _ _ _ parts close c.parts.ensures c.closing.ensures
     ∙ ap (λ (q : Page). penned d.words q (parts ++ close)) c.titled.ensures
     ∙ ap (λ w. penned d.words (page_of c.args.self.now) (word keyword.Msc ∷ name w ∷ sign Semi ∷ (parts ++ close))) called

@@ -22,10 +22,10 @@ returns c =
     let close : List Tok = word keyword.Endmscdocument ∷ sign Semi ∷ [] in
     let declared =
     c.instances.ensures
-    ∙ ap (λ (ns : List Name). penned d.words (page_of c.titled.new.self) (flat_map (λ (n : Name). inst_tokens (name_of n)) ns)) c.as-slice.ensures
+    ∙ ap (λ (ns : List Name). penned d.words (page_of c.titled.new.self) (flat_map (λ (n : Name). inst_tokens (name_of n)) ns)) c.as_slice.ensures
     ∙ ap (penned d.words (page_of c.titled.new.self)) (joined_map inst_tokens name_of (items_of t.instances)) in
     and_then_lem d.words _ _ _ instances (charts ++ (graph_tokens d ++ close)) declared
     (and_then_lem d.words _ _ _ charts (graph_tokens d ++ close) c.charts.ensures
     (and_then_lem d.words _ _ _ (graph_tokens d) close c.graph.ensures c.closing.ensures))
     ∙ ap (λ (q : Page). penned d.words q (instances ++ (charts ++ (graph_tokens d ++ close)))) c.titled.ensures
-    ∙ ap (λ w. penned d.words (page_of c.args.self.now) (word keyword.Mscdocument ∷ name w ∷ sign Semi ∷ (instances ++ (charts ++ (graph_tokens d ++ close))))) c.as-bytes.ensures
+    ∙ ap (λ w. penned d.words (page_of c.args.self.now) (word keyword.Mscdocument ∷ name w ∷ sign Semi ∷ (instances ++ (charts ++ (graph_tokens d ++ close))))) c.as_bytes.ensures

@@ -15,8 +15,8 @@ returns c =
     let start : List Tok = list_of d d.start in
     let lines : List Tok = flat_map (label_of d) d.labels in
     let close : List Tok = word keyword.Endmsc ∷ sign Semi ∷ [] in
-    and_then_lem d.words _ _ _ start (sign Semi ∷ (lines ++ close)) (c.list.ensures ∙ ap (λ (ls : List ℕ). penned d.words (page_of c.keyword.new.self) (list_of d ls)) c.as-slice.ensures)
+    and_then_lem d.words _ _ _ start (sign Semi ∷ (lines ++ close)) (c.list.ensures ∙ ap (λ (ls : List ℕ). penned d.words (page_of c.keyword.new.self) (list_of d ls)) c.as_slice.ensures)
     (and_then_lem d.words _ _ _ lines close c.labels.ensures c.closing.ensures ∙ ap (λ (q : Page). penned d.words q (lines ++ close)) c.sign.ensures)
     ∙ ap (λ (q : Page). penned d.words q (start ++ (sign Semi ∷ (lines ++ close)))) c.keyword.ensures
     ∙ ap (λ (q : Page). penned d.words q (word keyword.Expr ∷ (start ++ (sign Semi ∷ (lines ++ close))))) c.titled.ensures
-    ∙ ap (λ w. penned d.words (page_of c.args.self.now) (word keyword.Msc ∷ name w ∷ sign Semi ∷ word keyword.Expr ∷ (start ++ (sign Semi ∷ (lines ++ close))))) c.as-bytes.ensures
+    ∙ ap (λ w. penned d.words (page_of c.args.self.now) (word keyword.Msc ∷ name w ∷ sign Semi ∷ word keyword.Expr ∷ (start ++ (sign Semi ∷ (lines ++ close))))) c.as_bytes.ensures

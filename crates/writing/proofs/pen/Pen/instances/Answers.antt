@@ -11,7 +11,7 @@ pub loop-i-preserved : goal.loop-i-preserved
 loop-i-preserved c =
     let ws = spellings_of c.args.words.now.spellings in
     penned_item ws (λ (n : Name). inst_tokens (name_of n)) c.args.names.now c.loop-i.i c.index-names-i.result (page_of c.loop-i.self) _ c.loop-i-test.true c.index-names-i.is
-    (c.titled.ensures ∙ ap (λ w. penned ws (page_of c.loop-i.self) (inst_tokens w)) c.as-bytes.ensures)
+    (c.titled.ensures ∙ ap (λ w. penned ws (page_of c.loop-i.self) (inst_tokens w)) c.as_bytes.ensures)
     ∙ c.loop-i.invariant
 
 pub returns : goal.returns

@@ -6,7 +6,7 @@ use Rattle.writing.proofs.pen.Pen.keyword.Goals as goal
 
 pub returns : goal.returns
 returns c =
-    let there : c.rank-of-place.result < length c.args.words.now.spellings = search rules in
+    let there : c.rank_of-place.result < length c.args.words.now.spellings = search rules in
     c.word.ensures
     ∙ ap (on (page_of c.args.self.now) true)
-    (c.as-bytes.ensures ∙ sym (get_or-map name_of c.args.words.now.spellings c.rank-of-place.result c.index-words-place.result [] there) ∙ ap (λ k. get_or (map name_of c.args.words.now.spellings) k []) c.rank-of-place.ensures)
+    (c.as_bytes.ensures ∙ sym (get_or-map name_of c.args.words.now.spellings c.rank_of-place.result c.index-words-place.result [] there) ∙ ap (λ k. get_or (map name_of c.args.words.now.spellings) k []) c.rank_of-place.ensures)

@@ -1,9 +1,8 @@
 use Rattle.std.proofs.Common.{List, [], ◌∷◌, ◌++◌, ap, ◌∙◌}
 use Rattle.msc.specs.Stored.{doc_of}
 use Rattle.msc.specs.Stored as stored
-use Rattle.msc.specs.Tokens.{Tok, name, word, sign}
+use Rattle.msc.specs.Tokens.{Tok, name, sign}
 use Rattle.msc.specs.declared.symbol.Symbol.TheVariants.{Colon, Semi}
-use Rattle.msc.specs.declared.words.Keyword.TheVariants as keyword
 use Rattle.writing.specs.Pens.{Page, penned, page_of}
 use Rattle.writing.specs.Walks.{body_of}
 use Rattle.writing.proofs.Pages.{and_then_lem}
@@ -16,4 +15,4 @@ returns c =
     and_then_lem d.words _ _ _ body (sign Semi ∷ []) c.body.ensures c.sign-2.ensures
     ∙ ap (λ (q : Page). penned d.words q (body ++ (sign Semi ∷ []))) c.sign.ensures
     ∙ ap (λ (q : Page). penned d.words q (sign Colon ∷ (body ++ (sign Semi ∷ [])))) c.word.ensures
-    ∙ ap (λ w. penned d.words (page_of c.args.self.now) (name w ∷ sign Colon ∷ (body ++ (sign Semi ∷ [])))) c.as-bytes.ensures
+    ∙ ap (λ w. penned d.words (page_of c.args.self.now) (name w ∷ sign Colon ∷ (body ++ (sign Semi ∷ [])))) c.as_bytes.ensures

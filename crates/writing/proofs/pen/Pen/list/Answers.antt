@@ -16,7 +16,7 @@ pub loop-i-preserved : goal.loop-i-preserved
 loop-i-preserved c =
     let d = doc_of c.args.document.now.tables in
     let names = label_names d.labels in
-    let called = c.label-name-in-loop-i.ensures ∙ ap (λ (rs : List Label). get_or (label_names (map label_of rs)) (get_or c.args.list.now c.loop-i.i 0) []) c.as-slice-labels.ensures in
+    let called = c.label_name-in-loop-i.ensures ∙ ap (λ (rs : List Label). get_or (label_names (map label_of rs)) (get_or c.args.list.now c.loop-i.i 0) []) c.as_slice-labels.ensures in
     penned_at d.words (alt_tokens names) c.args.list.now c.loop-i.i 0 (page_of c.loop-i.self) _ c.loop-i-test.true
     (c.word-in-loop-i.ensures ∙ ap (on (page_of c.keyword.new.self) true) called ∙ ap (λ (q : Page). on q true (get_or names (get_or c.args.list.now c.loop-i.i 0) [])) c.keyword.ensures)
     ∙ c.loop-i.invariant
@@ -25,7 +25,7 @@ pub returns : goal.returns
 returns c =
     let d = doc_of c.args.document.now.tables in
     let names = label_names d.labels in
-    let called = c.label-name.ensures ∙ ap (λ (rs : List Label). get_or (label_names (map label_of rs)) (get_or c.args.list.now 0 0) []) c.as-slice-labels.ensures in
+    let called = c.label_name.ensures ∙ ap (λ (rs : List Label). get_or (label_names (map label_of rs)) (get_or c.args.list.now 0 0) []) c.as_slice-labels.ensures in
     penned-all d.words (alt_tokens names) c.args.list.now c.loop-i.i (page_of c.loop-i.self) c.loop-i-test.false
     ∙ c.loop-i.invariant
     ∙ ap (λ (q : Page). penned d.words q (flat_map (alt_tokens names) (drop 1 c.args.list.now))) (c.word.ensures ∙ ap (on (page_of c.args.self.now) true) called)

@@ -17,7 +17,7 @@ returns c =
     let d = doc_of c.args.document.now.tables in
     let events : List Tok = flat_map (event_of d) c.args.events.now in
     let close : List Tok = word keyword.Endinstance ∷ sign Semi ∷ [] in
-    let called = c.name-at.ensures ∙ ap (λ (ns : List Name). get_or (map name_of ns) c.args.i []) c.as-slice-names.ensures in
+    let called = c.name_at.ensures ∙ ap (λ (ns : List Name). get_or (map name_of ns) c.args.i []) c.as_slice-names.ensures in
     and_then_lem d.words _ _ _ events close c.events.ensures c.closing.ensures
     ∙ ap (λ (q : Page). penned d.words q (events ++ close)) c.titled.ensures
     ∙ ap (λ w. penned d.words (page_of c.args.self.now) (word keyword.Instance ∷ name w ∷ sign Semi ∷ (events ++ close))) called
