@@ -7,10 +7,11 @@ Words are in snake case, types, facts and modules in upper camel case, and a das
 
 - A name that begins with a small letter and has a capital inside is turned (`isPair` to `is_pair`), wherever an .antt
   file declares it, and inside the names that are built on it (`length-restOf` to `length-rest_of`).
-- A fact of specs/ has no dash (`Reads-back` to `ReadsBack`), nor has a field of a record there (`no-fewer` to `no_fewer`).
+- A fact of specs/ has no dash (`Reads-back` to `ReadsBack`), nor has a field of a record there (`to-end` to `to_end`).
 - In a lemma's name a dash stays where it joins two names, of definitions here or of the library's words, or where a
   symbol follows (`outs-++`). A plain word is added with `_` (`plays-longer` to `plays_longer`).
 - A lemma that would get the name of something else gets `_lem` behind it.
+- What these rules cannot see stands in the table BY_HAND.
 - Names of the library stay: they are the words that the repository imports from it. So do the names that the check
   gives to goals, and the functions, comments and strings of .rt files. Edits below must-fail/ are turned like the code.
 """
@@ -24,8 +25,30 @@ DECLARATION = re.compile(
 )
 OWN = re.compile(r"^crates/\w+/(specs|proofs)/\w+\.antt$")
 IMPORT = re.compile(r"use (?:Rattle\.(?:std|logic)|mathlib|Prim|lib)\b[\w.]*\.\{([^}]*)\}")
-# A lemma has today the name that the definition beside it gets.
-FELL_TOGETHER = {"starts_from": "starts_from_lem", "turns_at": "turns_at_lem"}
+
+
+def snake(name):
+    return re.sub(r"([a-z0-9])([A-Z])", lambda m: m[1] + "_" + m[2], name).lower()
+
+
+# A lemma of .antt files that has the name which the definition beside it gets.
+FELL_TOGETHER = {"turns_at": "turns_at_lem"}
+LOCAL = (
+    "A-size a-is a-le built-in-sound d-is e-is front-in j-is k-in k-le l-is m-is n-is n-lt no-c ns-is p-is p-is' q-is r-is "
+    "step-waiting t-is text-is u-size w-is y-real yes-at"
+)
+PLAIN_WORDS = (
+    "first-not first-zero handed-on is-one-first left-all not-all not-both place-next repeat-next repeat-on resolve-back "
+    "tally-next tally-on whole-complete whole-real zero-chart"
+)
+IN_CLAUSES = "bodyHeld brokenOf coversOf isNext labelHeld markedOf playedOf readyOf startsOf"
+# Local names; lemmas whose last word only happens to be the name of something else; names that .rt files give to imported
+# definitions; a fact in small letters; a lemma with an older name of the library's word.
+BY_HAND = (
+    {name: name.replace("-", "_") for name in (LOCAL + " " + PLAIN_WORDS).split()}
+    | {name: snake(name) for name in IN_CLAUSES.split()}
+    | {"sameInstance": "SameInstance", "joined-++": "flat_map-++"}
+)
 
 
 def files(ends):
@@ -39,10 +62,6 @@ def files(ends):
 def read(path):
     with open(path, encoding="utf-8") as f:
         return f.read()
-
-
-def snake(name):
-    return re.sub(r"([a-z0-9])([A-Z])", lambda m: m[1] + "_" + m[2], name).lower()
 
 
 def library_words(texts):
@@ -115,9 +134,10 @@ def turns(texts, code):
             new = joined("-".join(heads.get(p, snake(p) if p[:1].islower() else p) for p in name.split("-")), words)
         if new != name:
             full[name] = new
+    full |= BY_HAND
     stands = (used - set(full)) | {new for name, new in full.items() if "-" not in name}
     for name, new in full.items():
-        if "-" in name and new in stands and name not in declared.fields | declared.facts:
+        if "-" in name and new in stands and name not in declared.fields | declared.facts | set(BY_HAND):
             full[name] = new + "_lem"
     return full, used, declared
 
