@@ -33,20 +33,21 @@ def snake(name):
 
 # A lemma of .antt files that has the name which the definition beside it gets.
 FELL_TOGETHER = {"turns_at": "turns_at_lem"}
+# Local names; behind a dot such a word is one that the check gives.
 LOCAL = (
     "A-size a-is a-le built-in-sound d-is e-is front-in j-is k-in k-le l-is m-is n-is n-lt no-c ns-is p-is p-is' q-is r-is "
     "step-waiting t-is text-is u-size w-is y-real yes-at"
-)
+).split()
 PLAIN_WORDS = (
     "first-not first-zero handed-on is-one-first left-all not-all not-both place-next repeat-next repeat-on resolve-back "
     "tally-next tally-on whole-complete whole-real zero-chart"
-)
-IN_CLAUSES = "bodyHeld brokenOf coversOf isNext labelHeld markedOf playedOf readyOf startsOf"
-# Local names; lemmas whose last word only happens to be the name of something else; names that .rt files give to imported
+).split()
+IN_CLAUSES = "bodyHeld brokenOf coversOf isNext labelHeld markedOf playedOf readyOf startsOf".split()
+# Lemmas whose last word only happens to be the name of something else; names that .rt files give to imported
 # definitions; a fact in small letters; a lemma with an older name of the library's word.
 BY_HAND = (
-    {name: name.replace("-", "_") for name in (LOCAL + " " + PLAIN_WORDS).split()}
-    | {name: snake(name) for name in IN_CLAUSES.split()}
+    {name: name.replace("-", "_") for name in LOCAL + PLAIN_WORDS}
+    | {name: snake(name) for name in IN_CLAUSES}
     | {"sameInstance": "SameInstance", "joined-++": "flat_map-++"}
 )
 
@@ -155,7 +156,11 @@ def main():
         return
 
     def turned(text, skip=()):
-        return NAME.sub(lambda m: m[0] if m[0] in skip else full.get(m[0], m[0]), text)
+        def one(m):
+            stays = m[0] in skip or m[0] in LOCAL and text[m.start() - 1 : m.start()] == "."
+            return m[0] if stays else full.get(m[0], m[0])
+
+        return NAME.sub(one, text)
 
     for path, text in (texts | code).items():
         if path.endswith(".antt"):

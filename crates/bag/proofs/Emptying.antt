@@ -33,5 +33,5 @@ module _ {B : Type 0} (sound : B → Type 0) (held : B → List Stamped) (space 
       let o = one_less (held c) (held d) 0 r (omega arith) t.answer t.after in
       record { stays = t.stays; limit = t.limit ∙ l.limit; count = omega arith }
 
-  pub left-all : (b c : B) (n : ℕ) → Left b c n → length (held b) ≤ n → Emptied sound held space b c
-  left-all b c n l le = let k = l.count in record { stays = l.stays; limit = l.limit; after = length_none (held c) (omega arith) }
+  pub left_all : (b c : B) (n : ℕ) → Left b c n → length (held b) ≤ n → Emptied sound held space b c
+  left_all b c n l le = let k = l.count in record { stays = l.stays; limit = l.limit; after = length_none (held c) (omega arith) }

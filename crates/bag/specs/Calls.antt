@@ -1,5 +1,5 @@
 -- What a call that changes a bag promises, of the bag before (b) and after (b') and of the answer (r).
--- The order is the bag's own: `Shuffled xs ys` says that ys has the elements of xs, in any order.
+-- The order is the bag's own: `IsPermutation xs ys` says that ys has the elements of xs, in any order.
 use Rattle.std.specs.Prelude.{◌≡◌, ℕ, List, [], ◌∷◌, Result, MatchResult}
 use Rattle.std.specs.List.Sorted.{IsPermutation}
 use Rattle.channel.specs.declared.Refusal.{Refusal}

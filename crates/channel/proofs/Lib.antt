@@ -1,3 +1,4 @@
+pub mod Letters
 pub mod Pairs
 pub mod Totals
 pub mod Makes

@@ -10,6 +10,7 @@ use msc::words::Words;
 use reading::read::read;
 use report::{Failed, refuse_reading};
 use std::io::{Read, Write};
+use std::process::ExitCode;
 use std::{env, fs, io};
 use writing::writer::write;
 
@@ -137,6 +138,11 @@ fn run(rt: &HostRuntime) -> Result<(), Failed> {
     Err(Failed::Usage)
 }
 
-fn main(rt: HostRuntime) -> Result<(), Failed> {
-    run(&rt)
+fn main(rt: HostRuntime) -> Result<ExitCode, Failed> {
+    match run(&rt) {
+        Ok(()) => Ok(ExitCode::SUCCESS),
+        // what there is to say has been said
+        Err(Failed::Refused) | Err(Failed::Usage) => Ok(ExitCode::FAILURE),
+        Err(failed) => Err(failed),
+    }
 }

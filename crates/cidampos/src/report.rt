@@ -5,7 +5,7 @@ use std::alloc::AllocError;
 use std::io;
 use std::io::Write;
 
-// Why the program ends with status 1; what there is to say has been said.
+// Why the program ends with status 1. What there is to say of the first two has been said; the others end `main`.
 #[derive(Debug, Drop)]
 pub enum Failed {
     Refused,

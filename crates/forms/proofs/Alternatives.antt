@@ -91,18 +91,18 @@ module _ (ns : List (List ℕ)) where
       and_from _ _ (not_from_false _ (has-among ls l (not-true _ h1))) (names-differ ls h2)
 
   -- names of labels are looked up as those labels
-  pub resolve-back : distinct ns ≡ true → (ls : List ℕ) (ms : List Mention) → every (λ k. ltb k (length ns)) ls ≡ true → mentioned ms ≡ names_at ns ls → resolve ns ms ≡ Ok ls
-  resolve-back d [] [] r e = refl
-  resolve-back d [] (m ∷ ms) r e = absurd (omega (arith, ap length e))
-  resolve-back d (l ∷ ls) [] r e = absurd (omega (arith, ap length e))
-  resolve-back d (l ∷ ls) (m ∷ ms) r e =
+  pub resolve_back : distinct ns ≡ true → (ls : List ℕ) (ms : List Mention) → every (λ k. ltb k (length ns)) ls ≡ true → mentioned ms ≡ names_at ns ls → resolve ns ms ≡ Ok ls
+  resolve_back d [] [] r e = refl
+  resolve_back d [] (m ∷ ms) r e = absurd (omega (arith, ap length e))
+  resolve_back d (l ∷ ls) [] r e = absurd (omega (arith, ap length e))
+  resolve_back d (l ∷ ls) (m ∷ ms) r e =
       let (r1, r2) = and_parts (ltb l (length ns)) (every (λ k. ltb k (length ns)) ls) r in
       let e' : m.name ∷ mentioned ms ≡ get_or ns l [] ∷ names_at ns ls = e in
       let h : m.name ≡ get_or ns l [] = cc in
       let k : mentioned ms ≡ names_at ns ls = cc in
       let z : 0 + l ≡ l = omega arith in
       let at : place ns m.name ≡ Some l = ap (place ns) h ∙ place_found 0 ns l d (ltb-true _ _ r1) ∙ ap Some z in
-      ap (λ o. follow (label_at o m.at) λ l. follow (resolve ns ms) λ ls. Ok (l ∷ ls)) at ∙ ap (λ o. follow o λ ls. Ok (l ∷ ls)) (resolve-back d ls ms r2 k)
+      ap (λ o. follow (label_at o m.at) λ l. follow (resolve ns ms) λ ls. Ok (l ∷ ls)) at ∙ ap (λ o. follow o λ ls. Ok (l ∷ ls)) (resolve_back d ls ms r2 k)
 
   -- what was looked up are the labels of those names
   pub follow_got : {A B : Type 0} (x : Result A Refusal) (k : A → Result B Refusal) {b : B} → follow x k ≡ Ok b → (a : A) × (x ≡ Ok a) × (k a ≡ Ok b)

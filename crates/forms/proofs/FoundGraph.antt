@@ -80,11 +80,11 @@ module _ (ws : List (List ℕ)) (v : is_vocabulary ws ≡ true) where
     list_writes names ms [] n ns a d l e k t = absurd (omega (arith, ap length (sym a ∙ e)))
     list_writes names ms (y ∷ ls) n ns a d l e k t =
         let f : n ∷ ns ≡ get_or names y [] ∷ names_at names ls = sym a ∙ e in
-        let n-is : n ≡ get_or names y [] = cc in
-        let ns-is : ns ≡ names_at names ls = cc in
+        let n_is : n ≡ get_or names y [] = cc in
+        let ns_is : ns ≡ names_at names ls = cc in
         let len : length ms ≡ length (y ∷ ls) = sym (length-mentioned ms) ∙ ap length e ∙ length-names_at names (y ∷ ls) in
         let tokens : name n ∷ (more_tokens ns ++ (sign x ∷ [])) ≡ list_tokens names (y ∷ ls) ++ (sign x ∷ []) =
-        ap (λ w. name w ∷ (more_tokens ns ++ (sign x ∷ []))) n-is ∙ ap (λ z. name (get_or names y []) ∷ (more_tokens z ++ (sign x ∷ []))) ns-is ∙ ap (λ ts. ts ++ (sign x ∷ [])) (sym (list_tokens_lem names y ls)) in
+        ap (λ w. name w ∷ (more_tokens ns ++ (sign x ∷ []))) n_is ∙ ap (λ z. name (get_or names y []) ∷ (more_tokens z ++ (sign x ∷ []))) ns_is ∙ ap (λ ts. ts ++ (sign x ∷ [])) (sym (list_tokens_lem names y ls)) in
         (and_from _ _ (and_from _ _ (le-leb 1 (length (y ∷ ls)) (omega arith)) (le-leb (length (y ∷ ls)) 8 (omega (arith, l, len)))) (and_from _ _ k (names-differ names (y ∷ ls) (ap distinct (sym e) ∙ d))), takes_as ws tokens t)
 
     pub list_is : (p : ℕ) (s : List ℕ) {ms : List Mention} {q : ℕ} {r : List ℕ} → list_at ws x p s ≡ got ms q r → (names : List (List ℕ)) (ls : List ℕ) → resolve names ms ≡ Ok ls → (list (length names) ls ≡ true) × Takes ws (list_tokens names ls ++ (sign x ∷ [])) s r

@@ -115,5 +115,5 @@ module _ (M : List (List ℕ)) (d : distinct M ≡ true) (m : ℕ) where
       let e : length (take m M) ≡ m = length-take-le m M le in
       ap (place (take m M)) (sym (get_or-take m M n [] l)) ∙ place_found 0 (take m M) n (distinct_front (take m M) (drop m M) (ap distinct k ∙ d)) (omega arith) ∙ ap Some (omega arith)
 
-  pub place-next : m < length M → place (take m M) (get_or M m []) ≡ None
-  place-next l = place_none 0 (take m M) (get_or M m []) (distinct_at (take m M) (get_or M m []) (drop (suc m) M) (ap distinct (sym (split_at M m [] l)) ∙ d))
+  pub place_next : m < length M → place (take m M) (get_or M m []) ≡ None
+  place_next l = place_none 0 (take m M) (get_or M m []) (distinct_at (take m M) (get_or M m []) (drop (suc m) M) (ap distinct (sym (split_at M m [] l)) ∙ d))

@@ -47,8 +47,8 @@ module _ (I M A : List (List ℕ)) where
       inr (parts_tokens I M A (suc i) ps, ltb-true i (length I) (held (ltb i (length I)) some (λ n. let n' = eqb-true (length (e ∷ es)) 0 n in omega arith) z), refl, own_blocks ps (suc i) w)
     where
       held : (b c : Bool) → (c ≡ true → ⊥) → cond b true c ≡ true → b ≡ true
-      held true c no-c h = refl
-      held false c no-c h = absurd (no-c h)
+      held true c no_c h = refl
+      held false c no_c h = absurd (no_c h)
 
   own_charts : (cs : List Chart) → every (chart (length I)) cs ≡ true → ChartForms I M A cs (flat_map (chart_tokens I M A) cs)
   own_charts [] h = refl

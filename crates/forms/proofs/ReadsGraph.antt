@@ -23,7 +23,7 @@ use Rattle.forms.proofs.Steps.{Comes, and_then_lem, and_at, comes_when, comes_un
 use Rattle.forms.proofs.Takes.{Takes, done, then, takes-split, takes_join, takes_mid, takes_head, takes_two, takes_as, takes_of_spelled, sign_self, word_comes, sign_comes, name_comes, end_comes, next_comes, old_name_comes}
 use Rattle.forms.proofs.Facts.{Facts}
 use Rattle.forms.proofs.Goods.{good_form, names_are, length-chart_names, length-label_names}
-use Rattle.forms.proofs.Alternatives.{names_at, length-names_at, more_tokens, list_tokens_lem, mentioned_push, lines_push, distinct-names, resolve-back, resolve_push}
+use Rattle.forms.proofs.Alternatives.{names_at, length-names_at, more_tokens, list_tokens_lem, mentioned_push, lines_push, distinct-names, resolve_back, resolve_push}
 use Rattle.forms.proofs.ReadsCharts.{instances_come, state, charts_come}
 
 module _ (ws : List (List ℕ)) (v : is_vocabulary ws ≡ true) where
@@ -60,7 +60,7 @@ module _ (ws : List (List ℕ)) (v : is_vocabulary ws ≡ true) where
       let (q, e) = name_comes ws v c pl in
       let m0 = mention ws (get_or ns l [], q) in
       let (ms, is, more) = alts_come (names_at ns ls) x 7 (m0 ∷ []) (omega (arith, eight, len)) (omega (arith, eight, len)) (distinct-names ns d (l ∷ ls) h3 h4) t1 e.0 in
-      (ms, resolve-back ns d (l ∷ ls) ms h3 is, and_at (name_at ws pl s) _ e more)
+      (ms, resolve_back ns d (l ∷ ls) ms h3 is, and_at (name_at ws pl s) _ e more)
 
   rest_comes : (cs ns : List (List ℕ)) (b : Body) {s r : List ℕ} → distinct cs ≡ true → distinct ns ≡ true → body (length cs) (length ns) b ≡ true → Takes ws (body_tokens cs ns b) s r → (pl : ℕ)
       → (x : Rest) × (resolve_rest ns x ≡ Ok b) × Comes (rest_at ws cs pl s) x r

@@ -8,7 +8,7 @@ use Rattle.lexis.specs.Steps.{Step, got, bad, and_then}
 use Rattle.lexis.specs.declared.refusal.Refusal.TheVariants.{Limit}
 use Rattle.forms.specs.Drafts.{Draft}
 use Rattle.forms.specs.Reading.{known}
-use Rattle.forms.proofs.Names.{place_before, place-next, place_is, none_has}
+use Rattle.forms.proofs.Names.{place_before, place_next, place_is, none_has}
 use Rattle.forms.proofs.Steps.{Comes, comes_as, and_then_lem, comes_when, got_value, got_rest, when_got, then_got}
 use Rattle.forms.proofs.Cuts.{Cut}
 use Rattle.forms.proofs.Takes.{name_comes, name_got, cut_to, comes_known, comes_unknown, known_case}
@@ -36,7 +36,7 @@ module _ (ws : List (List ℕ)) (v : is_vocabulary ws ≡ true) (made : List (Li
           let up : suc m ≡ max m (suc n) = omega arith in
           let long : length (take m M) ≡ m = length-take-le m M (omega arith) in
           let small : ltb (length (take m M)) 128 ≡ true = lt-ltb (length (take m M)) 128 (omega (arith, long)) in
-          let at : place (take m M) (get_or M n []) ≡ None = ap (λ n. place (take m M) (get_or M n [])) same ∙ place-next M d m l' in
+          let at : place (take m M) (get_or M n []) ≡ None = ap (λ n. place (take m M) (get_or M n [])) same ∙ place_next M d m l' in
           let grown : take m M ++ (get_or M n [] ∷ []) ≡ take (max m (suc n)) M = ap (λ n. take m M ++ (get_or M n [] ∷ [])) same ∙ sym (take-suc M m [] l') ∙ ap (λ k. take k M) up in
           and_then_lem (name_at ws p s) _ e λ p'.
           comes_as (ap (λ xs. (made xs, length (take m M))) grown ∙ ap (λ k. (made (take (max m (suc n)) M), k)) (long ∙ sym same)) (comes_unknown ws v _ _ _ at (comes_when _ _ _ small (p', refl)))

@@ -20,8 +20,8 @@ use Rattle.forms.specs.Drafts.{Draft, no_draft, at_hand, so_far, with_instance, 
 
 -- what a place in a list of names comes to, or that there is none
 abbrev pub known : {A : Type 0} → Option ℕ → (ℕ → Step A) → Step A → Step A
-known None yes-at none = none
-known (Some k) yes-at none = yes-at k
+known None yes_at none = none
+known (Some k) yes_at none = yes_at k
 
 module _ (ws : List (List ℕ)) where
   -- a name that is not yet among those of its kind

@@ -4,7 +4,7 @@ use Rattle.msc.specs.Choice.{IsNode, PathFrom, last_from}
 use Rattle.msc.specs.Events.{out_to, in_from, picked}
 use Rattle.msc.specs.Listing.{After, Chain, link, chain}
 use Rattle.msc.specs.Meaning.{Meaning, start, part_in, part}
-use Rattle.msc.specs.Order.{spot, Occ, occ, IsSpot, Ahead, same_instance, IsOcc, Direct, Before, Linearisation}
+use Rattle.msc.specs.Order.{spot, Occ, occ, IsSpot, Ahead, SameInstance, IsOcc, Direct, Before, Linearisation}
 use Rattle.msc.specs.declared.event.Event.{Event}
 use Rattle.judge.specs.Rules.{Fair, IsList}
 use Rattle.theory.specs.Given.{PathEnd, Given, Paired, Listed}
@@ -25,7 +25,7 @@ module _ (part part' : ℕ → ℕ → List Event) (l l' : ℕ) (same : part l �
   real_same (occ (suc j) s) h = h
 
   direct_same : (y x : Occ) → Direct part (l ∷ []) y x → Direct part' (l' ∷ []) y x
-  direct_same (occ zero s) (occ j s') d = subst (λ (c : ℕ → List Event). IsSpot c s × ((same_instance s s' × (0 < j)) ⊎ ((0 ≡ j) × Ahead c s s'))) same d
+  direct_same (occ zero s) (occ j s') d = subst (λ (c : ℕ → List Event). IsSpot c s × ((SameInstance s s' × (0 < j)) ⊎ ((0 ≡ j) × Ahead c s s'))) same d
   direct_same (occ (suc k) s) (occ j s') d = d
 
 pub same_listing : (part part' : ℕ → ℕ → List Event) (l l' : ℕ) → part l ≡ part' l' → (L : List Occ) → Linearisation part (l ∷ []) L → Linearisation part' (l' ∷ []) L

@@ -65,8 +65,8 @@ free_two zero b = refl
 free_two (suc zero) (v, vs, h, f) = let e : v ≡ In 0 0 = cc in absurd (subst NotIn e f)
 free_two (suc (suc i)) (v, vs, h, f) = let z : ◌≡◌ {A = ℕ} 0 1 = cc in omega arith
 
-first-zero : (x : Occ) → First m.drawn (0 ∷ []) x → inst x ≡ 0
-first-zero x f = free_two (inst x) (subst BeginsFree (drawn_is (inst x)) (first_free m.drawn 0 matched x f))
+first_zero : (x : Occ) → First m.drawn (0 ∷ []) x → inst x ≡ 0
+first_zero x f = free_two (inst x) (subst BeginsFree (drawn_is (inst x)) (first_free m.drawn 0 matched x f))
 
 first_is : First m.drawn (0 ∷ []) (occ 0 (spot 0 0))
 first_is = free_first m.drawn 0 0 (Out 0 1, [], refl, tt)
@@ -100,8 +100,8 @@ one_ahead (occ j (spot p a)) (r, inl (s, h)) = absurd (let z : ⊥ = omega arith
 one_ahead (occ j (spot p a)) (r, inr (e, inl (s, h))) = absurd (let z : ⊥ = omega arith in z)
 one_ahead (occ zero (spot p a)) (r, inr (e, inr (n, k, xs, ys, da, db, c))) =
     let d : In 0 0 ∷ [] ≡ In k p ∷ ys = db in
-    let p-is : p ≡ 0 = cc in
-    let a-is : a ≡ 0 = omega (arith, r, ap (λ z. length (two z)) p-is) in cc
+    let p_is : p ≡ 0 = cc in
+    let a_is : a ≡ 0 = omega (arith, r, ap (λ z. length (two z)) p_is) in cc
 one_ahead (occ (suc j) (spot p a)) (r, inr (e, inr g)) = absurd (let z : ⊥ = omega arith in z)
 
 two_listed : Linearisation both (0 ∷ []) listing
@@ -119,7 +119,7 @@ node_zero (suc zero) c h = absurd (let z : ◌≡◌ {A = ℕ} 0 1 = cc in let y
 node_zero (suc (suc l)) c h = absurd (let z : ◌≡◌ {A = ℕ} 0 1 = cc in let y : ⊥ = omega arith in y)
 
 leads_zero : (x i : ℕ) → LeadsList m x i → i ≡ 0
-leads_zero x i (l, c, h, e, (y, f, s)) = sym s ∙ first-zero y (subst (λ z. First m.drawn (z ∷ []) y) (node_zero l c e).1 f)
+leads_zero x i (l, c, h, e, (y, f, s)) = sym s ∙ first_zero y (subst (λ z. First m.drawn (z ∷ []) y) (node_zero l c e).1 f)
 
 node_ends : LeadsToEnd m 0
 node_ends = ends {x = 0} {l = 1} (inr (inl refl)) refl
@@ -135,14 +135,14 @@ start_node : (l : ℕ) → Mem l (m.list start) → IsNode m l
 start_node l (inl e) = subst (IsNode m) (sym e) (0, refl)
 start_node l (inr h) = absurd h
 
-zero-chart : (c : ℕ) → c < 1 → 0 ≡ c
-zero-chart c h = omega arith
+zero_chart : (c : ℕ) → c < 1 → 0 ≡ c
+zero_chart c h = omega arith
 
 pub ping_fair : Fair m
 ping_fair = record {
-  matched = λ c h. subst (Matched m) (zero-chart c h) matched;
-  listable = λ c h. subst (Listable m) (zero-chart c h) (listing, same_listing both m.drawn 0 0 (fun_ext (λ i. sym (drawn_is i))) listing two_listed);
-  one_first = λ c h. subst (OneFirst m) (zero-chart c h) (occ 0 (spot 0 0), first_is, λ y f. first_shape m.drawn 0 y f ∙ ap (λ z. occ 0 (spot z 0)) (first-zero y f));
+  matched = λ c h. subst (Matched m) (zero_chart c h) matched;
+  listable = λ c h. subst (Listable m) (zero_chart c h) (listing, same_listing both m.drawn 0 0 (fun_ext (λ i. sym (drawn_is i))) listing two_listed);
+  one_first = λ c h. subst (OneFirst m) (zero_chart c h) (occ 0 (spot 0 0), first_is, λ y f. first_shape m.drawn 0 y f ∙ ap (λ z. occ 0 (spot z 0)) (first_zero y f));
   starts = start_node;
   one_leader = λ x h i j a b. leads_zero x i a ∙ sym (leads_zero x j b);
   takes_part = takes_part;

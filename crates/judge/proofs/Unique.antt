@@ -27,10 +27,10 @@ abbrev AllOf : List Stage → Type 0
 AllOf [] = Unit {0}
 AllOf (s ∷ ss) = s.All × AllOf ss
 
-not-all : (ss : List Stage) (e : Refusal) → First ss e → AllOf ss → ⊥
-not-all [] e f a = f
-not-all (s ∷ ss) e (inl f) a = s.never f.0 f.1 a.0
-not-all (s ∷ ss) e (inr f) a = not-all ss e f.1 a.1
+not_all : (ss : List Stage) (e : Refusal) → First ss e → AllOf ss → ⊥
+not_all [] e f a = f
+not_all (s ∷ ss) e (inl f) a = s.never f.0 f.1 a.0
+not_all (s ∷ ss) e (inr f) a = not_all ss e f.1 a.1
 
 unique : (ss : List Stage) (e e' : Refusal) → First ss e → First ss e' → e ≡ e'
 unique [] e e' f g = absurd f
@@ -88,4 +88,4 @@ module _ (m : Meaning) where
   breaks_first (NoEnd x) b = inr (b.0, inr (b.1, inr (b.2, inr (b.3, inr (b.4, inr (b.5, inl (x, b.6, refl)))))))
 
 pub determined : Determined
-determined m = (λ e b f. not-all (stages m) e (breaks_first m e b) (fair_all m f), λ e e' b b'. unique (stages m) e e' (breaks_first m e b) (breaks_first m e' b'))
+determined m = (λ e b f. not_all (stages m) e (breaks_first m e b) (fair_all m f), λ e e' b b'. unique (stages m) e e' (breaks_first m e b) (breaks_first m e' b'))

@@ -16,7 +16,7 @@ use Rattle.judge.specs.declared.rule.Rule.TheVariants as rule
 use Rattle.order.proofs.Scanned.{lowest_none, lowest_some, first_none, first_some}
 use Rattle.order.proofs.Drawn.{is_matched_lem, matched_is}
 use Rattle.order.proofs.Greedy.{is_listable_lem, listable_is}
-use Rattle.order.proofs.Fronts.{is_one-first, one_first_is}
+use Rattle.order.proofs.Fronts.{is_one_first, one_first_is}
 use Rattle.order.proofs.Limits.{Limits}
 use Rattle.judge.proofs.Ends.{some_of, none_of, is_to_end, to_end_is}
 use Rattle.judge.proofs.Lists.{is_one_leader, one_leader_is, is_present_lem, present_is, is_leader}
@@ -72,7 +72,7 @@ module _ (m : Meaning) where
       reads_listable = record { covered = λ x. Decides-ltb x m.charts; below = chart_small; held = λ x c. (is_listable_lem m.drawn x (w.framed x), listable_is m.drawn x (w.framed x) (M x c)) }
 
       reads_one_first : Reads rule.OneFirst (IsChart m) (OneFirst m)
-      reads_one_first = record { covered = λ x. Decides-ltb x m.charts; below = chart_small; held = λ x c. (is_one-first m.drawn x (w.framed x) (M x c), one_first_is m.drawn x (w.framed x) (M x c)) }
+      reads_one_first = record { covered = λ x. Decides-ltb x m.charts; below = chart_small; held = λ x c. (is_one_first m.drawn x (w.framed x) (M x c), one_first_is m.drawn x (w.framed x) (M x c)) }
 
       reads_one_leader : Reads rule.OneLeader (IsList m) (OneLeader m)
       reads_one_leader = record { covered = list_decides; below = list_small; held = λ x c. (is_one_leader m w M x, one_leader_is m w M x) }

@@ -1,6 +1,6 @@
 // Rule 17: which lists lead to an end label.
 ghost use Rattle.std.specs.Prelude.{◌≡◌, ◌<◌, false, is_some, slice_index_or};
-ghost use Rattle.judge.specs.Checks.{leads_on, unmarked as isNext, next_mark, marked as markedOf};
+ghost use Rattle.judge.specs.Checks.{leads_on, unmarked as is_next, next_mark, marked as marked_of};
 ghost use Rattle.order.specs.Meant.{meant};
 ghost use Rattle.order.specs.Scans.{first};
 
@@ -54,7 +54,7 @@ fn next_mark(document: &Document, marks: &[bool; 65]) -> Option<u8>
 
 // Marks labels until nothing more is to be marked.
 pub fn marked(document: &Document) -> [bool; 65]
-    ensures { result ≡ markedOf (meant document.now) }
+    ensures { result ≡ marked_of (meant document.now) }
 {
     let mut marks = [false; 65];
     for _ in 0..64u8 {

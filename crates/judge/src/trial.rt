@@ -1,7 +1,7 @@
 // Tries a rule at every chart or list that it covers.
 ghost use Rattle.std.specs.Prelude.{◌≡◌, not};
 ghost use Rattle.order.specs.Charts.{is_one, is_several};
-ghost use Rattle.judge.specs.Checks.{is_end, covers as coversOf, holds as holds_of, broken as brokenOf, end_at_start, marked as markedOf};
+ghost use Rattle.judge.specs.Checks.{is_end, covers as covers_of, holds as holds_of, broken as broken_of, end_at_start, marked as marked_of};
 ghost use Rattle.order.specs.Meant.{meant};
 ghost use Rattle.order.specs.Scans.{first};
 
@@ -37,7 +37,7 @@ fn is_several(leaders: Leaders) -> bool
 
 // Whether a rule applies to a chart, a label or the start list.
 fn covers(document: &Document, rule: Rule, x: u8) -> bool
-    ensures { result ≡ coversOf (meant document.now) rule x }
+    ensures { result ≡ covers_of (meant document.now) rule x }
 {
     match rule {
         Rule::Matched => (x as usize) < charts(document),
@@ -51,7 +51,7 @@ fn covers(document: &Document, rule: Rule, x: u8) -> bool
 
 // Whether a rule holds there; `marks` has the lists that lead to an end.
 fn holds(document: &Document, marks: &[bool; 65], rule: Rule, x: u8) -> bool
-    requires { marks.now ≡ markedOf (meant document.now) }
+    requires { marks.now ≡ marked_of (meant document.now) }
     ensures { result ≡ holds_of (meant document.now) rule x }
 {
     match rule {
@@ -66,8 +66,8 @@ fn holds(document: &Document, marks: &[bool; 65], rule: Rule, x: u8) -> bool
 
 // The lowest chart or label that breaks a rule.
 pub fn broken(document: &Document, marks: &[bool; 65], rule: Rule) -> Option<u8>
-    requires { marks.now ≡ markedOf (meant document.now) }
-    ensures { result ≡ brokenOf (meant document.now) rule }
+    requires { marks.now ≡ marked_of (meant document.now) }
+    ensures { result ≡ broken_of (meant document.now) rule }
 {
     for x in 0..65u8 {
         if covers(document, rule, x) && !holds(document, marks, rule, x) {

@@ -33,8 +33,8 @@ Belongs c p a q b = (n : ℕ) × (m : ℕ) × (xs : List Event) × (ys : List Ev
 abbrev pub Ahead : (ℕ → List Event) → Spot → Spot → Type 0
 Ahead c (spot p a) (spot q b) = ((p ≡ q) × (a < b)) ⊎ Belongs c p a q b
 
-abbrev pub same_instance : Spot → Spot → Type 0
-same_instance (spot i k) (spot i' k') = i ≡ i'
+abbrev pub SameInstance : Spot → Spot → Type 0
+SameInstance (spot i k) (spot i' k') = i ≡ i'
 
 module _ (part : ℕ → ℕ → List Event) where
   -- the chart at a place; past the end, an empty one
@@ -48,7 +48,7 @@ module _ (part : ℕ → ℕ → List Event) where
 
   -- directly before: at an earlier place of the same instance, or at the same place as in the chart there
   abbrev pub Direct : List ℕ → Occ → Occ → Type 0
-  Direct P (occ j s) (occ j' s') = IsSpot (chart_at P j) s × ((same_instance s s' × (j < j')) ⊎ ((j ≡ j') × Ahead (chart_at P j) s s'))
+  Direct P (occ j s) (occ j' s') = IsSpot (chart_at P j) s × ((SameInstance s s' × (j < j')) ⊎ ((j ≡ j') × Ahead (chart_at P j) s s'))
 
   -- before: directly, or by a chain
   abbrev pub Before : List ℕ → Occ → Occ → Type 0

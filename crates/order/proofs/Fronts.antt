@@ -22,11 +22,11 @@ starts_no_in : (es : List Event) (n p : ℕ) (ys : List Event) → starts es ≡
 starts_no_in [] n p ys h e = both_ways false refl h
 starts_no_in (v ∷ es) n p ys h e = let i : v ≡ In n p = cc in both_ways false refl (ap opens (sym i) ∙ h)
 
-starts_from_lem : (es : List Event) → 0 < length es → ((n p : ℕ) (ys : List Event) → drop 0 es ≡ In n p ∷ ys → ⊥) → starts es ≡ true
-starts_from_lem [] l h = absurd (let z : ⊥ = omega arith in z)
-starts_from_lem (Out n q ∷ es) l h = refl
-starts_from_lem (In n p ∷ es) l h = absurd (h n p es refl)
-starts_from_lem (Action n ∷ es) l h = refl
+starts_from : (es : List Event) → 0 < length es → ((n p : ℕ) (ys : List Event) → drop 0 es ≡ In n p ∷ ys → ⊥) → starts es ≡ true
+starts_from [] l h = absurd (let z : ⊥ = omega arith in z)
+starts_from (Out n q ∷ es) l h = refl
+starts_from (In n p ∷ es) l h = absurd (h n p es refl)
+starts_from (Action n ∷ es) l h = refl
 
 module _ (drawn : ℕ → ℕ → List Event) (c : ℕ) where
   abbrev at : ℕ → Occ
@@ -44,7 +44,7 @@ module _ (drawn : ℕ → ℕ → List Event) (c : ℕ) where
   pub first_is : Pairs (drawn c) → (x : Occ) → First drawn (c ∷ []) x → (x ≡ at (inst x)) × (starts (drawn c (inst x)) ≡ true)
   first_is M (occ (suc j) (spot i k)) f = absurd (let z : ⊥ = omega (arith, f.0) in z)
   first_is M (occ zero (spot i (suc k))) f = absurd (f.1 (at i) (link (let z : 0 < length (drawn c i) = omega (arith, f.0) in z, inr (refl, inl (refl, omega arith)))))
-  first_is M (occ zero (spot i zero)) f = (refl, starts_from_lem (drawn c i) f.0 late)
+  first_is M (occ zero (spot i zero)) f = (refl, starts_from (drawn c i) f.0 late)
     where
       late : (n p : ℕ) (ys : List Event) → drop 0 (drawn c i) ≡ In n p ∷ ys → ⊥
       late n p ys e = let r = out_of (drawn c) M p i 0 n ys e in let b = r.1 in
@@ -73,8 +73,8 @@ module _ (drawn : ℕ → ℕ → List Event) (c : ℕ) where
     abbrev OneAlone : Type 0
     OneAlone = (x : Occ) × First drawn (c ∷ []) x × ((y : Occ) → First drawn (c ∷ []) y → y ≡ x)
 
-    pub is_one-first : is_one front ≡ true → OneAlone
-    is_one-first h = go front h front_tally
+    pub is_one_first : is_one front ≡ true → OneAlone
+    is_one_first h = go front h front_tally
       where
         go : (a : Leaders) → is_one a ≡ true → Tally a LeadsChart → OneAlone
         go Nobody h t = absurd (both_ways false refl h)

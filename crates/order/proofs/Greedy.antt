@@ -12,7 +12,7 @@ use Rattle.msc.specs.declared.event.Event.{Event}
 use Rattle.msc.specs.declared.event.Event.TheVariants.{Out, In, Action}
 use Rattle.order.specs.Charts.{playable, can_play, ready, advanced, played, is_played, is_listable}
 use Rattle.order.proofs.Scanned.{lowest_none, lowest_some, all_each, all_from, repeat_keeps, repeat_stuck}
-use Rattle.order.proofs.Members.{mem_left, mem_right, mem_cases, norep_snoc, after_snoc, after_chain, first-not}
+use Rattle.order.proofs.Members.{mem_left, mem_right, mem_cases, norep_snoc, after_snoc, after_chain, first_not}
 use Rattle.order.proofs.Drawn.{Framed, Pairs, drop_lt, picked_mono, out_more, out_of}
 
 -- nothing is done at first
@@ -194,7 +194,7 @@ module _ (drawn : ℕ → ℕ → List Event) (c : ℕ) where
         next (suc k') e = let was = past (occ 0 (spot i k')) (link (let z : k' < length (parts i) = omega arith in z, inr (refl, inl (refl, omega arith)))) in omega (arith, was.1, behind)
 
   pub listable_is : Framed parts → Pairs parts → (L : List Occ) × Linearisation drawn (c ∷ []) L → is_listable parts ≡ true
-  listable_is w M (L, W) = ⊎_elim over more (first-not (Before drawn (c ∷ [])) (Passed (played parts)) (passed? (played parts)) [] L W.order (λ x m. absurd m))
+  listable_is w M (L, W) = ⊎_elim over more (first_not (Before drawn (c ∷ [])) (Passed (played parts)) (passed? (played parts)) [] L W.order (λ x m. absurd m))
     where
       over : ((x : Occ) → Mem x L → Passed (played parts) x) → is_listable parts ≡ true
       over h = all_from (is_played parts (played parts)) 0 8 (λ i _ _. le-leb _ _

@@ -132,9 +132,9 @@ module _ (f : ℕ → Bool) where
       go false t h ih = let r = ih h in record { before = y ∷ r.before; behind = r.behind; split = ap (λ z. y ∷ z) r.split; here = r.here; ahead = λ k. ⊎_elim (λ e. ap f e ∙ t) (r.ahead k) }
 
 module _ {S : Type 0} (next : S → Option ℕ) (add : S → ℕ → S) where
-  repeat-on : (n : ℕ) (s : S) (x : ℕ) → next s ≡ Some x → repeat next add (suc n) s ≡ repeat next add n (add s x)
+  repeat_on : (n : ℕ) (s : S) (x : ℕ) → next s ≡ Some x → repeat next add (suc n) s ≡ repeat next add n (add s x)
   unfolding repeat
-  repeat-on n s x h = ap (λ o. onward o s (λ x. repeat next add n (add s x))) h
+  repeat_on n s x h = ap (λ o. onward o s (λ x. repeat next add n (add s x))) h
 
   repeat_nil : (s : S) → repeat next add 0 s ≡ s
   unfolding repeat
@@ -149,8 +149,8 @@ module _ {S : Type 0} (next : S → Option ℕ) (add : S → ℕ → S) where
   repeat_halt (suc n) s h = repeat_off n s h
 
   -- a loop over the numbers below e: goes on, stops early, ends
-  pub repeat-next : (k e : ℕ) (s : S) (x : ℕ) → k < e → next s ≡ Some x → repeat next add (e - (k + 1)) (add s x) ≡ repeat next add (e - k) s
-  repeat-next k e s x h n = rw (left k e h) (sym (repeat-on (e - (k + 1)) s x n))
+  pub repeat_next : (k e : ℕ) (s : S) (x : ℕ) → k < e → next s ≡ Some x → repeat next add (e - (k + 1)) (add s x) ≡ repeat next add (e - k) s
+  repeat_next k e s x h n = rw (left k e h) (sym (repeat_on (e - (k + 1)) s x n))
 
   pub repeat_stop : (k e : ℕ) (s : S) → next s ≡ None → s ≡ repeat next add (e - k) s
   repeat_stop k e s n = sym (repeat_halt (e - k) s n)
@@ -165,7 +165,7 @@ module _ {S : Type 0} (next : S → Option ℕ) (add : S → ℕ → S) where
       where
         go : (o : Option ℕ) → next s ≡ o → ((t : S) → I t → I (repeat next add n t)) → I (repeat next add (suc n) s)
         go None h ih = subst I (sym (repeat_halt (suc n) s h)) i
-        go (Some x) h ih = subst I (sym (repeat-on n s x h)) (ih (add s x) (keep s x i h))
+        go (Some x) h ih = subst I (sym (repeat_on n s x h)) (ih (add s x) (keep s x i h))
 
     -- where a size grows with each turn, and is never above n, n turns from size 0 are enough
     module _ (size : S → ℕ) (grow : (s : S) (x : ℕ) → I s → next s ≡ Some x → size (add s x) ≡ size s + 1) (top : ℕ) (most : (s : S) → I s → size s ≤ top) where
@@ -179,4 +179,4 @@ module _ {S : Type 0} (next : S → Option ℕ) (add : S → ℕ → S) where
         where
           go : (o : Option ℕ) → next s ≡ o → ((t : S) → I t → top ≤ size t + n → next (repeat next add n t) ≡ None) → next (repeat next add (suc n) s) ≡ None
           go None e ih = ap next (repeat_halt (suc n) s e) ∙ e
-          go (Some x) e ih = ap next (repeat-on n s x e) ∙ ih (add s x) (keep s x i e) (omega (arith, grow s x i e))
+          go (Some x) e ih = ap next (repeat_on n s x e) ∙ ih (add s x) (keep s x i e) (omega (arith, grow s x i e))

@@ -27,15 +27,15 @@ tally_more (One i) x P t = go (eqb i x) refl
     go false e = (i, x, inl t.0, inr refl, eqb-false i x e)
 tally_more Several x P t = (t.0, t.1, inl t.2, inl t.3, t.4)
 
-tally-on : (a : Leaders) (xs : List ℕ) (P : ℕ → Type 0) → Tally a P → Tally (gathered a xs) (λ j. P j ⊎ Mem j xs)
-tally-on a [] P t = tally_like a P (λ j. P j ⊎ ⊥) (λ i p. inl p) (λ i. ⊎_elim (λ p. p) (λ z. absurd z)) t
-tally-on a (x ∷ xs) P t = tally_like (gathered (joined_by a x) xs) (λ j. (P j ⊎ (j ≡ x)) ⊎ Mem j xs) (λ j. P j ⊎ Mem j (x ∷ xs))
+tally_on : (a : Leaders) (xs : List ℕ) (P : ℕ → Type 0) → Tally a P → Tally (gathered a xs) (λ j. P j ⊎ Mem j xs)
+tally_on a [] P t = tally_like a P (λ j. P j ⊎ ⊥) (λ i p. inl p) (λ i. ⊎_elim (λ p. p) (λ z. absurd z)) t
+tally_on a (x ∷ xs) P t = tally_like (gathered (joined_by a x) xs) (λ j. (P j ⊎ (j ≡ x)) ⊎ Mem j xs) (λ j. P j ⊎ Mem j (x ∷ xs))
     (λ j. ⊎_elim (⊎_elim inl (λ e. inr (inl e))) (λ h. inr (inr h)))
     (λ j. ⊎_elim (λ p. inl (inl p)) (⊎_elim (λ e. inl (inr e)) inr))
-    (tally-on (joined_by a x) xs (λ j. P j ⊎ (j ≡ x)) (tally_more a x P t))
+    (tally_on (joined_by a x) xs (λ j. P j ⊎ (j ≡ x)) (tally_more a x P t))
 
 pub tally : (xs : List ℕ) → Tally (gathered Nobody xs) (λ j. Mem j xs)
-tally xs = tally_like (gathered Nobody xs) (λ j. ⊥ ⊎ Mem j xs) (λ j. Mem j xs) (λ j. ⊎_elim (λ z. absurd z) (λ h. h)) (λ j. inr) (tally-on Nobody xs (λ j. ⊥) (λ i z. z))
+tally xs = tally_like (gathered Nobody xs) (λ j. ⊥ ⊎ Mem j xs) (λ j. Mem j xs) (λ j. ⊎_elim (λ z. absurd z) (λ h. h)) (λ j. inr) (tally_on Nobody xs (λ j. ⊥) (λ i z. z))
 
 pub gathered-++ : (a : Leaders) (xs ys : List ℕ) → gathered a (xs ++ ys) ≡ gathered (gathered a xs) ys
 gathered-++ a [] ys = refl

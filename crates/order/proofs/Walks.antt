@@ -58,9 +58,9 @@ raised (x ∷ d) (suc i) k h zero = omega (arith, h 0)
 raised (x ∷ d) (suc i) k h (suc j) = raised d i k (λ n. h (suc n)) j
 
 -- an in can be played as the counts say
-pub can_in : (parts : ℕ → List Event) (done : List ℕ) (i n p at out a b : ℕ) (mine theirs front-in front_out : List Event)
+pub can_in : (parts : ℕ → List Event) (done : List ℕ) (i n p at out a b : ℕ) (mine theirs front_in front_out : List Event)
     → mine ≡ parts i → at ≡ get_or done i 0 → at < length mine → get_or mine at (Out 0 0) ≡ In n p → theirs ≡ parts p → out ≡ get_or done p 0
-    → front_out ≡ take out theirs → front-in ≡ take at mine → a ≡ length (picked (in_from p) front-in) → b ≡ length (picked (out_to i) front_out) → ltb a b ≡ can_play parts done i
+    → front_out ≡ take out theirs → front_in ≡ take at mine → a ≡ length (picked (in_from p) front_in) → b ≡ length (picked (out_to i) front_out) → ltb a b ≡ can_play parts done i
 can_in parts done i n p at out a b mine theirs fi fo e1 e2 l e3 e4 e5 e6 e7 e8 e9 =
     let played : ltb a b ≡ playable parts done i (In n p) = cc in
     let now : get_or (parts i) (get_or done i 0) (Out 0 0) ≡ In n p = cc in

@@ -2,7 +2,7 @@
 ghost use Rattle.std.specs.Prelude.{◌≡◌, length, take, Decides, slice_index};
 ghost use Rattle.msc.specs.Choice.{Matched, Listable};
 ghost use Rattle.msc.specs.Events.{in_from, out_to, picked};
-ghost use Rattle.order.specs.Charts.{can_play, ready as readyOf, played as playedOf, is_listable};
+ghost use Rattle.order.specs.Charts.{can_play, ready as ready_of, played as played_of, is_listable};
 ghost use Rattle.order.specs.Meant.{meant};
 
 use crate::look::part;
@@ -79,7 +79,7 @@ fn can_play(document: &Document, chart: u8, done: &[usize; 8], instance: u8) -> 
 
 // The lowest instance whose next event can be played.
 fn ready(document: &Document, chart: u8, done: &[usize; 8]) -> Option<u8>
-    ensures { result ≡ readyOf ((meant document.now).drawn chart) done.now }
+    ensures { result ≡ ready_of ((meant document.now).drawn chart) done.now }
 {
     for i in 0..8u8 {
         if can_play(document, chart, done, i) {
@@ -91,7 +91,7 @@ fn ready(document: &Document, chart: u8, done: &[usize; 8]) -> Option<u8>
 
 // The number of events of each part that are done when nothing more can be played.
 fn played(document: &Document, chart: u8) -> [usize; 8]
-    ensures { result ≡ playedOf ((meant document.now).drawn chart) }
+    ensures { result ≡ played_of ((meant document.now).drawn chart) }
 {
     let mut done = [0; 8];
     for _ in 0..64u8 {

@@ -1,6 +1,6 @@
 // Rule 13: which instances of a chart have an event with none before it.
 ghost use Rattle.std.specs.Prelude.{◌≡◌};
-ghost use Rattle.order.specs.Charts.{starts as startsOf, starters, gathered, joined_by};
+ghost use Rattle.order.specs.Charts.{starts as starts_of, starters, gathered, joined_by};
 ghost use Rattle.order.specs.Meant.{meant};
 
 use crate::leaders::Leaders;
@@ -27,7 +27,7 @@ fn joined(leaders: Leaders, instance: u8) -> Leaders
 
 // Whether a part starts with an event that is no in.
 fn starts(events: &[Event]) -> bool
-    ensures { result ≡ startsOf events.now }
+    ensures { result ≡ starts_of events.now }
 {
     match events {
         [] => false,

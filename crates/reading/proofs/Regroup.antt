@@ -48,8 +48,8 @@ pub text_forms : (ws : List (List ℕ)) (p : ℕ) (s : List ℕ) → text_at ws 
 unfolding text_at head_at body_at tail_at
 text_forms ws p s = pieces (word_at ws keyword.Mscdocument) (name_at ws) (sign_at ws Semi) (instances_at ws) (charts_at ws) (graph_at ws) p s
 
-pub handed-on : {X A : Type 0} (f : X → A) (r : Result X Refusal) (d e : Refusal) (whole : Result A Refusal) → r ≡ Err d → d ≡ e → Err e ≡ whole → told f r ≡ whole
-handed-on f r d e whole is same h = ap (told f) (is ∙ ap Err same) ∙ h
+pub handed_on : {X A : Type 0} (f : X → A) (r : Result X Refusal) (d e : Refusal) (whole : Result A Refusal) → r ≡ Err d → d ≡ e → Err e ≡ whole → told f r ≡ whole
+handed_on f r d e whole is same h = ap (told f) (is ∙ ap Err same) ∙ h
 
 -- what a reader at the front of a text came to, with labels looked up, is what reading the text means
 pub read_is : (ws : List (List ℕ)) (text t : List ℕ) (at : ℕ) (m : Step Read) → length text ≤ most → t ≡ text → at ≡ 0 → m ≡ text_at ws at (drop at t) → finish ws m ≡ read_of ws text

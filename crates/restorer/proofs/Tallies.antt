@@ -60,5 +60,5 @@ module _ (f t s : ℕ) where
       unique ys a.0 m.0 a.1 a.2 m.2 k ∙ sym (unique xs m.1.0 m.0 m.1.1 m.1.2 m.2 n)
 
 -- a search that goes on past x
-pub tally-next : (f t s : ℕ) (xs : List Stamped) (i : ℕ) (x : Stamped) → shown_at xs i ≡ Ok x → carries f t s x ≡ false → tally f t s (take i xs) ≡ 0 → tally f t s (take (i + 1) xs) ≡ 0
-tally-next f t s xs i x e other z = rw (add-one i, shown_next xs i x e, tally_append f t s (take i xs) (x ∷ []), z, other) refl
+pub tally_next : (f t s : ℕ) (xs : List Stamped) (i : ℕ) (x : Stamped) → shown_at xs i ≡ Ok x → carries f t s x ≡ false → tally f t s (take i xs) ≡ 0 → tally f t s (take (i + 1) xs) ≡ 0
+tally_next f t s xs i x e other z = rw (add-one i, shown_next xs i x e, tally_append f t s (take i xs) (x ∷ []), z, other) refl

@@ -37,17 +37,17 @@ module _ (part : ℕ → ℕ → List Event) (G : Listed part) where
   later : (l : ℕ) (P : List ℕ) (y : Occ) → IsOcc part P y → IsOcc part (l ∷ P) (next y)
   later l P (occ j (spot i k)) h = h
 
-  whole-real : (P : List ℕ) (x : Occ) → Mem x (whole P) → IsOcc part P x
-  whole-real [] x h = absurd h
-  whole-real (l ∷ P) x h = ⊎_elim
+  whole_real : (P : List ℕ) (x : Occ) → Mem x (whole P) → IsOcc part P x
+  whole_real [] x h = absurd h
+  whole_real (l ∷ P) x h = ⊎_elim
       (λ m. front l P x ((G l).1.real x m))
-      (λ m. let r = map_mem next x (whole P) m in subst (IsOcc part (l ∷ P)) (sym r.1) (later l P r.0 (whole-real P r.0 r.2)))
+      (λ m. let r = map_mem next x (whole P) m in subst (IsOcc part (l ∷ P)) (sym r.1) (later l P r.0 (whole_real P r.0 r.2)))
       (mem_cases x (G l).0 (map next (whole P)) h)
 
-  whole-complete : (P : List ℕ) (x : Occ) → IsOcc part P x → Mem x (whole P)
-  whole-complete [] (occ j s) h = absurd (none j s h)
-  whole-complete (l ∷ P) (occ zero (spot i k)) h = mem_left _ (G l).0 (map next (whole P)) ((G l).1.complete (occ 0 (spot i k)) h)
-  whole-complete (l ∷ P) (occ (suc j) s) h = mem_right _ (G l).0 (map next (whole P)) (mem_map next (occ j s) (whole P) (whole-complete P (occ j s) h))
+  whole_complete : (P : List ℕ) (x : Occ) → IsOcc part P x → Mem x (whole P)
+  whole_complete [] (occ j s) h = absurd (none j s h)
+  whole_complete (l ∷ P) (occ zero (spot i k)) h = mem_left _ (G l).0 (map next (whole P)) ((G l).1.complete (occ 0 (spot i k)) h)
+  whole_complete (l ∷ P) (occ (suc j) s) h = mem_right _ (G l).0 (map next (whole P)) (mem_map next (occ j s) (whole P) (whole_complete P (occ j s) h))
 
   apart : (l : ℕ) (x y : Occ) → IsOcc part (l ∷ []) x → x ≡ next y → ⊥
   apart l (occ (suc j) s) y h e = none j s h
@@ -70,7 +70,7 @@ module _ (part : ℕ → ℕ → List Event) (G : Listed part) where
       (after_map next (Direct part P) (Direct part (l ∷ P)) (onto (G l).0 []) (later-place l P) [] (whole P) (whole_order P))
 
   pub whole_is : (P : List ℕ) → Linearisation part P (whole P)
-  whole_is P = record { real = whole-real P; complete = whole-complete P; norep = whole_norep P; order = after_chain (Direct part P) [] (whole P) (λ x y m r. m) (whole_order P) }
+  whole_is P = record { real = whole_real P; complete = whole_complete P; norep = whole_norep P; order = after_chain (Direct part P) [] (whole P) (λ x y m r. m) (whole_order P) }
 
   occ? : Discrete Occ
   occ? = Occ-discrete ℕ_discrete (Spot-discrete ℕ_discrete)

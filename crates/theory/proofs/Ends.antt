@@ -32,11 +32,11 @@ few_below (suc n) L r b = go (mem? ℕ_discrete n L) (few_below n)
 
     go : Dec (Mem n L) → ((M : List ℕ) → NoRep M → ((x : ℕ) → Mem x M → x < n) → length M ≤ n) → length L ≤ suc n
     go (no h) ih = omega (arith, ih L r (λ x m. less x (b x m) (λ e. h (subst (λ z. Mem z L) e m))))
-    go (yes h) ih = let (B, C, l-is) = split_at n L h in
-        let s = norep_less B n C (subst NoRep l-is r) in
-        let inside : (x : ℕ) → Mem x (B ++ C) → Mem x L = λ x m. subst (Mem x) (sym l-is) (⊎_elim (mem_left x B (n ∷ C)) (λ k. mem_right x B (n ∷ C) (inr k)) (mem_cases x B C m)) in
+    go (yes h) ih = let (B, C, l_is) = split_at n L h in
+        let s = norep_less B n C (subst NoRep l_is r) in
+        let inside : (x : ℕ) → Mem x (B ++ C) → Mem x L = λ x m. subst (Mem x) (sym l_is) (⊎_elim (mem_left x B (n ∷ C)) (λ k. mem_right x B (n ∷ C) (inr k)) (mem_cases x B C m)) in
         let k = ih (B ++ C) s.0 (λ x m. less x (b x (inside x m)) (λ e. s.1 (subst (λ z. Mem z (B ++ C)) e m))) in
-        omega (arith, ap length l-is, length-append B (n ∷ C), length-append B C)
+        omega (arith, ap length l_is, length-append B (n ∷ C), length-append B C)
 
 module _ (m : Meaning) where
   -- a way to an end with no label twice: a way that comes back to a label is cut short there
@@ -49,8 +49,8 @@ module _ (m : Meaning) where
         where
           go : Dec (Mem l Q) → (Q : List ℕ) × WayToEnd m x Q × NoRep Q
           go (no f) = (l ∷ Q, ((h, n, w.0), w.1), (f, r))
-          go (yes f) = let (B, C, q-is) = split_at l Q f in
-              (l ∷ C, ((h, n, tail l B C (subst (PathFrom m l) q-is w.0)), subst (λ z. (k : ℕ) × Mem k (m.list z) × IsEnd m k) (ap (last_from m l) q-is ∙ last_tail l B C) w.1), norep_back B (l ∷ C) (subst NoRep q-is r))
+          go (yes f) = let (B, C, q_is) = split_at l Q f in
+              (l ∷ C, ((h, n, tail l B C (subst (PathFrom m l) q_is w.0)), subst (λ z. (k : ℕ) × Mem k (m.list z) × IsEnd m k) (ap (last_from m l) q_is ∙ last_tail l B C) w.1), norep_back B (l ∷ C) (subst NoRep q_is r))
             where
               tail : (y : ℕ) (B C : List ℕ) → PathFrom m y (B ++ l ∷ C) → PathFrom m l C
               tail y [] C v = v.2

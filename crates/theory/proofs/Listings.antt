@@ -56,10 +56,10 @@ module _ {A : Type 0} where
       closed z y (inr h) r = inr (c z y h r)
 
   -- the first of the list of which D does not hold: D holds of all that is before it
-  pub first-not : (R : A → A → Type 0) (D : A → Type 0) → ((x : A) → Dec (D x)) → (seen L : List A) → After R seen L → ((x : A) → Mem x seen → D x)
+  pub first_not : (R : A → A → Type 0) (D : A → Type 0) → ((x : A) → Dec (D x)) → (seen L : List A) → After R seen L → ((x : A) → Mem x seen → D x)
       → ((x : A) → Mem x L → D x) ⊎ ((x : A) × Mem x L × (D x → ⊥) × ((y : A) → R y x → D y))
-  first-not R D dec seen [] a s = inl (λ x m. absurd m)
-  first-not R D dec seen (x ∷ L) a s = go (dec x) (first-not R D dec (x ∷ seen) L a.1)
+  first_not R D dec seen [] a s = inl (λ x m. absurd m)
+  first_not R D dec seen (x ∷ L) a s = go (dec x) (first_not R D dec (x ∷ seen) L a.1)
     where
       go : Dec (D x) → (((y : A) → Mem y (x ∷ seen) → D y) → ((y : A) → Mem y L → D y) ⊎ ((y : A) × Mem y L × (D y → ⊥) × ((z : A) → R z y → D z)))
           → ((y : A) → Mem y (x ∷ L) → D y) ⊎ ((y : A) × Mem y (x ∷ L) × (D y → ⊥) × ((z : A) → R z y → D z))

@@ -41,12 +41,12 @@ drop_past (a ∷ ys) bs [] ds h = absurd (let z : ⊥ = omega arith in z)
 drop_past (a ∷ ys) bs (c ∷ cs) ds h = drop_past ys bs cs ds (omega arith)
 
 module _ {X A : Type 0} (f : X → List A) where
-  pub joined-++ : (xs ys : List X) → flat_map f (xs ++ ys) ≡ flat_map f xs ++ flat_map f ys
-  joined-++ [] ys = refl
-  joined-++ (x ∷ xs) ys = rw (joined-++ xs ys) (sym (append_assoc (f x) (flat_map f xs) (flat_map f ys)))
+  pub flat_map-++ : (xs ys : List X) → flat_map f (xs ++ ys) ≡ flat_map f xs ++ flat_map f ys
+  flat_map-++ [] ys = refl
+  flat_map-++ (x ∷ xs) ys = rw (flat_map-++ xs ys) (sym (append_assoc (f x) (flat_map f xs) (flat_map f ys)))
 
   pub joined_cut : (n : ℕ) (xs : List X) → flat_map f (take n xs) ++ flat_map f (drop n xs) ≡ flat_map f xs
-  joined_cut n xs = sym (joined-++ (take n xs) (drop n xs)) ∙ ap (flat_map f) (take-append-drop n xs)
+  joined_cut n xs = sym (flat_map-++ (take n xs) (drop n xs)) ∙ ap (flat_map f) (take-append-drop n xs)
 
   pub joined_mono : (a b : ℕ) (xs : List X) → a ≤ b → length (flat_map f (take a xs)) ≤ length (flat_map f (take b xs))
   joined_mono a b xs h =

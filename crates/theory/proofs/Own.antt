@@ -12,7 +12,7 @@ use Rattle.theory.specs.Given.{Paired}
 use Rattle.theory.specs.Letters.{Tag, tag, tags, outs_to, ins_from, Letter, header_of, letter_of, posted, letters_to}
 use Rattle.theory.specs.Projection.{Placed, at, placed, proj_from, proj, pos}
 use Rattle.theory.proofs.Listings.{split_at, joined_same}
-use Rattle.theory.proofs.Lists.{no_cons, length-take-most, joined-++}
+use Rattle.theory.proofs.Lists.{no_cons, length-take-most, flat_map-++}
 use Rattle.theory.proofs.Projections.{find, split, chart_mid, stands_mid, counted, outs-ins}
 use Rattle.theory.proofs.Queues.{queue_law, out_picked}
 
@@ -31,10 +31,10 @@ first_in p (at (occ j' s) l' (In m t) ∷ zs) j l n u h = go (eqb t p) refl h (f
   where
     go : (b : Bool) → eqb t p ≡ b → map (tag j' l') (cond b (m ∷ []) []) ++ ins_from p zs ≡ tag j l n ∷ u → (ins_from p zs ≡ tag j l n ∷ u → FirstIn p zs j l n) → FirstIn p (at (occ j' s) l' (In m t) ∷ zs) j l n
     go true e k ih =
-        let t-is : t ≡ p = eqb-true t p e in
-        let j-is : j' ≡ j = cc in
-        let l-is : l' ≡ l = cc in
-        let m-is : m ≡ n = cc in
+        let t_is : t ≡ p = eqb-true t p e in
+        let j_is : j' ≡ j = cc in
+        let l_is : l' ≡ l = cc in
+        let m_is : m ≡ n = cc in
         ([], s, zs, cc, refl)
     go false e k ih = later_in p (at (occ j' s) l' (In m t)) zs j l n (rw e) (ih k)
 
@@ -48,9 +48,9 @@ module _ (part : ℕ → ℕ → List Event) (P : List ℕ) where
           → length (flat_map (tags f) (take (pos part P (occ j (spot i k))) (proj part P i))) ≡ length (flat_map (tags f) (proj part (take j P) i)) + length (picked f (take k (chart_at part P j i)))
       go A l B q w =
           let chart : chart_at part P j i ≡ part l i = ap (λ z. chart_at part z j i) q ∙ ap (λ z. chart_at part (A ++ l ∷ B) z i) w ∙ chart_mid part A l B i in
-          let k-le : k ≤ length (part l i) = omega (arith, ap length chart) in
+          let k_le : k ≤ length (part l i) = omega (arith, ap length chart) in
           let front : take j P ≡ A = ap (λ z. take z P) w ∙ ap (take (length A)) q ∙ take-append_seam A (l ∷ B) in
-          rw (front, chart, ← counted part f A l B i k k-le, q)
+          rw (front, chart, ← counted part f A l B i k k_le, q)
 
   -- where what stands in the middle of a projection stands on the path
   pub record Stands (i : ℕ) (us : List Placed) (x : Occ) (l : ℕ) (v : Event) : Type 0 where
@@ -135,9 +135,9 @@ module _ (part : ℕ → ℕ → List Event) (P : List ℕ) where
         go : (b : Bool) → eqb r q ≡ b → (c : ℕ) → drop c (map (letter_of part P freight (occ j s) l) (cond b (m ∷ []) []) ++ letters_to part P freight q zs) ≡ t ∷ ts
             → ((c' : ℕ) → drop c' (letters_to part P freight q zs) ≡ t ∷ ts → Sent q zs c' t) → Sent q (at (occ j s) l (Out m r) ∷ zs) c t
         go true e zero k ih =
-            let r-is : r ≡ q = eqb-true r q e in
-            let t-is : letter_of part P freight (occ j s) l m ≡ t = cc in
-            ([], j, s, l, m, zs, ap (λ z. at (occ j s) l (Out m z) ∷ zs) r-is, refl, sym t-is)
+            let r_is : r ≡ q = eqb-true r q e in
+            let t_is : letter_of part P freight (occ j s) l m ≡ t = cc in
+            ([], j, s, l, m, zs, ap (λ z. at (occ j s) l (Out m z) ∷ zs) r_is, refl, sym t_is)
         go true e (suc c) k ih = let w = ih c k in
             (at (occ j s) l (Out m r) ∷ w.0, w.1, w.2, w.3, w.4, w.5, ap (λ z. at (occ j s) l (Out m r) ∷ z) w.6, rw e (ap suc w.7), w.8)
         go false e c k ih = later_out q (at (occ j s) l (Out m r)) zs c t (rw e) (ih c k)
@@ -151,12 +151,12 @@ module _ (part : ℕ → ℕ → List Event) (P : List ℕ) where
         c = length (ins_from p (done part P e q))
 
         with_out : Sent q (done part P e p) c t → Own part P freight e p q t
-        with_out (us, j, s, l, n, ws, d, u-size, t-is) = with_in (first_in p (ahead part P e q) j l n _ law)
+        with_out (us, j, s, l, n, ws, d, u_size, t_is) = with_in (first_in p (ahead part P e q) j l n _ law)
           where
             law : ins_from p (ahead part P e q) ≡ tag j l n ∷ (outs_to q ws ++ outs_to q (ahead part P e p))
             law = sym (queue_law part H P e K p q) ∙ ap (λ z. z ++ outs_to q (ahead part P e p))
-                (ap (drop c) (ap (outs_to q) d ∙ joined-++ (tags (out_to q)) us (at (occ j s) l (Out n q) ∷ ws) ∙ ap (λ z. outs_to q us ++ z) (out_picked q j s l n ws))
-                ∙ ap (λ z. drop z (outs_to q us ++ tag j l n ∷ outs_to q ws)) (sym u-size) ∙ drop-append_seam (outs_to q us) (tag j l n ∷ outs_to q ws))
+                (ap (drop c) (ap (outs_to q) d ∙ flat_map-++ (tags (out_to q)) us (at (occ j s) l (Out n q) ∷ ws) ∙ ap (λ z. outs_to q us ++ z) (out_picked q j s l n ws))
+                ∙ ap (λ z. drop z (outs_to q us ++ tag j l n ∷ outs_to q ws)) (sym u_size) ∙ drop-append_seam (outs_to q us) (tag j l n ∷ outs_to q ws))
 
             whole_p : proj part P p ≡ us ++ at (occ j s) l (Out n q) ∷ (ws ++ ahead part P e p)
             whole_p = sym (take-append-drop (e p) (proj part P p)) ∙ ap (λ z. z ++ ahead part P e p) d ∙ append_assoc us (at (occ j s) l (Out n q) ∷ ws) (ahead part P e p)
@@ -171,7 +171,7 @@ module _ (part : ℕ → ℕ → List Event) (P : List ℕ) where
                 whole_q = sym (take-append-drop (e q) (proj part P q)) ∙ ap (λ z. done part P e q ++ z) d' ∙ sym (append_assoc (done part P e q) xs (at (occ j s') l (In n p) ∷ ys))
 
                 v_size : length (ins_from p vs) ≡ c
-                v_size = rw (joined-++ (tags (in_from p)) (done part P e q) xs, quiet, append-nil)
+                v_size = rw (flat_map-++ (tags (in_from p)) (done part P e q) xs, quiet, append-nil)
 
                 at_both : Stands p us (occ j s) l (Out n q) → Stands q vs (occ j s') l (In n p) → Own part P freight e p q t
                 at_both O I = record {
@@ -182,7 +182,7 @@ module _ (part : ℕ → ℕ → List Event) (P : List ℕ) where
                   into = I.number;
                   belongs = (n, n, O.behind, I.behind, O.event, rw J_is I.event, same);
                   next = (xs, ys, d' ∙ ap (λ z. xs ++ at z l (In n p) ∷ ys) (I.is ∙ ap (λ z. occ z (spot q I.number)) (sym J_is)), quiet);
-                  is = t-is ∙ ap (λ z. letter_of part P freight z l n) O.is;
+                  is = t_is ∙ ap (λ z. letter_of part P freight z l n) O.is;
                 }
                   where
                     J : ℕ
@@ -200,4 +200,4 @@ module _ (part : ℕ → ℕ → List Event) (P : List ℕ) where
                     same : length (picked (out_to q) (take O.number (chart_at part P J p))) ≡ length (picked (in_from p) (take I.number (chart_at part P J q)))
                     same = let ic : length (ins_from p vs) ≡ length (ins_from p (proj part (take J P) q)) + length (picked (in_from p) (take I.number (chart_at part P J q))) = rw J_is in_count in
                         let oi : length (outs_to q (proj part (take J P) p)) ≡ length (ins_from p (proj part (take J P) q)) = ap length (outs-ins part H (take J P) p q) in
-                        let a = u-size in let b = v_size in let oc = out_count_lem in omega arith
+                        let a = u_size in let b = v_size in let oc = out_count_lem in omega arith

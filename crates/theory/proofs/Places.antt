@@ -22,8 +22,8 @@ last_link : {A : Type 0} (R : A → A → Type 0) (y x : A) → Chain R y x → 
 last_link R y x (link r) = (y, r)
 last_link R y x (chain {y = z} a b) = last_link R z x b
 
-not-both : (v : Event) (n p : ℕ) → NotIn v → v ≡ In n p → ⊥
-not-both v n p f h = subst NotIn h f
+not_both : (v : Event) (n p : ℕ) → NotIn v → v ≡ In n p → ⊥
+not_both v n p f h = subst NotIn h f
 
 -- an event is no in, or an in
 in_or_not : (v : Event) → NotIn v ⊎ ((n : ℕ) × (p : ℕ) × (v ≡ In n p))
@@ -39,7 +39,7 @@ module _ (part : ℕ → ℕ → List Event) where
       direct : (z : Occ) → Direct part (c ∷ []) z (occ 0 (spot i 0)) → ⊥
       direct (occ j (spot q b)) (r, inl (s, k)) = omega arith
       direct (occ j (spot q b)) (r, inr (s, inl (s', k))) = omega arith
-      direct (occ zero (spot q b)) (r, inr (s, inr (n, n', xs, ys, dx, dy, e))) = let z : v ∷ vs ≡ In n' q ∷ ys = sym h ∙ dy in not-both v n' q f (cc)
+      direct (occ zero (spot q b)) (r, inr (s, inr (n, n', xs, ys, dx, dy, e))) = let z : v ∷ vs ≡ In n' q ∷ ys = sym h ∙ dy in not_both v n' q f (cc)
       direct (occ (suc j) (spot q b)) (r, inr (s, inr g)) = omega arith
 
   -- and the other way round: an event with none before it stands first in its part, and is no in, for the out that belongs to an in is before it
@@ -92,7 +92,7 @@ module _ (m : Meaning) (G : Given m) where
   pub one_leads : (l : ℕ) → Reached m l → (i j : ℕ) → LeadsNode m l i → LeadsNode m l j → i ≡ j
   one_leads l r i j (c, h, (x, f, s)) (d, k, (y, g, t)) =
       let (o, of, only) = G.one_first l c r h in
-      let d-is : Some d ≡ Some c = sym k ∙ h in
+      let d_is : Some d ≡ Some c = sym k ∙ h in
       let same : d ≡ c = cc in
       sym s ∙ ap inst (only x f ∙ sym (only y (subst (λ z. First m.drawn (z ∷ []) y) same g))) ∙ t
 
@@ -118,10 +118,10 @@ module _ (m : Meaning) (G : Given m) where
     -- The first event of its place: nothing before it is at that place, so it stands first in its part, and is no in.
     pub first_at : (A : List ℕ) (l : ℕ) (B : List ℕ) → P ≡ A ++ l ∷ B → (ys : List Occ) (i k : ℕ) (zs : List Occ) → xs ≡ ys ++ occ (length A) (spot i k) ∷ zs
         → (BegunPlace (length A) ys → ⊥) → (k ≡ 0) × LeadsNode m l i
-    first_at A l B p-is ys i k zs x_is none = (k_is, (leads_free l i).1 (node_mid m A l B (subst (Path m) p-is V), free d.0 d.1 d.2 (in_or_not d.0)))
+    first_at A l B p_is ys i k zs x_is none = (k_is, (leads_free l i).1 (node_mid m A l B (subst (Path m) p_is V), free d.0 d.1 d.2 (in_or_not d.0)))
       where
         chart : (q : ℕ) → chart_at (part m) P (length A) q ≡ part m l q
-        chart q = ap (λ z. chart_at (part m) z (length A) q) p-is ∙ chart_mid (part m) A l B q
+        chart q = ap (λ z. chart_at (part m) z (length A) q) p_is ∙ chart_mid (part m) A l B q
 
         real : k < length (chart_at (part m) P (length A) i)
         real = real_of ys (occ (length A) (spot i k)) zs x_is
@@ -147,26 +147,26 @@ module _ (m : Meaning) (G : Given m) where
 
     -- where a place is begun, so is the one ahead: its leader has been there
     begun_ahead : (C : List ℕ) (a l : ℕ) (B : List ℕ) → P ≡ C ++ a ∷ l ∷ B → (s : Spot) → Mem (occ (suc (length C)) s) xs → BegunPlace (length C) xs
-    begun_ahead C a l B p-is s h = go (first_with (λ x. place x ≡ suc (length C)) (λ x. ℕ_discrete (place x) (suc (length C))) xs (occ (suc (length C)) s) h refl)
+    begun_ahead C a l B p_is s h = go (first_with (λ x. place x ≡ suc (length C)) (λ x. ℕ_discrete (place x) (suc (length C))) xs (occ (suc (length C)) s) h refl)
       where
         go : (ys : List Occ) × (y : Occ) × (zs : List Occ) × (xs ≡ ys ++ y ∷ zs) × (place y ≡ suc (length C)) × ((z : Occ) → Mem z ys → place z ≡ suc (length C) → ⊥) → BegunPlace (length C) xs
-        go (ys, occ j (spot i k), zs, x_is, j-is, none) =
-            let A-size : length (C ++ a ∷ []) ≡ suc (length C) = length-append C (a ∷ []) ∙ omega arith in
-            let p-is' : P ≡ (C ++ a ∷ []) ++ l ∷ B = p-is ∙ sym (append_assoc C (a ∷ []) (l ∷ B)) in
-            let f = first_at (C ++ a ∷ []) l B p-is' ys i k zs (x_is ∙ ap (λ z. ys ++ occ z (spot i k) ∷ zs) (j-is ∙ sym A-size)) (λ (t, w). none (occ (length (C ++ a ∷ [])) t) w A-size) in
-            let took : 0 < length (part m a i) = leader_ahead C a l B (subst (Path m) p-is V) i f.1 in
-            let there : 0 < length (chart_at (part m) P (length C) i) = omega (arith, ap length (ap (λ z. chart_at (part m) z (length C) i) p-is ∙ chart_mid (part m) C a (l ∷ B) i)) in
-            (spot i 0, subst (Mem (occ (length C) (spot i 0))) (sym x_is) (mem_left _ ys (occ j (spot i k) ∷ zs) (ahead_of ys (occ j (spot i k)) zs x_is (occ (length C) (spot i 0)) (there, inl (refl, omega (arith, j-is))))))
+        go (ys, occ j (spot i k), zs, x_is, j_is, none) =
+            let A_size : length (C ++ a ∷ []) ≡ suc (length C) = length-append C (a ∷ []) ∙ omega arith in
+            let p_is' : P ≡ (C ++ a ∷ []) ++ l ∷ B = p_is ∙ sym (append_assoc C (a ∷ []) (l ∷ B)) in
+            let f = first_at (C ++ a ∷ []) l B p_is' ys i k zs (x_is ∙ ap (λ z. ys ++ occ z (spot i k) ∷ zs) (j_is ∙ sym A_size)) (λ (t, w). none (occ (length (C ++ a ∷ [])) t) w A_size) in
+            let took : 0 < length (part m a i) = leader_ahead C a l B (subst (Path m) p_is V) i f.1 in
+            let there : 0 < length (chart_at (part m) P (length C) i) = omega (arith, ap length (ap (λ z. chart_at (part m) z (length C) i) p_is ∙ chart_mid (part m) C a (l ∷ B) i)) in
+            (spot i 0, subst (Mem (occ (length C) (spot i 0))) (sym x_is) (mem_left _ ys (occ j (spot i k) ∷ zs) (ahead_of ys (occ j (spot i k)) zs x_is (occ (length C) (spot i 0)) (there, inl (refl, omega (arith, j_is))))))
 
     begun_before : (j : ℕ) → BegunPlace (suc j) xs → BegunPlace j xs
     begun_before j (spot i k, h) = go (split (part m) P (suc j) i k (W.1.real _ (mem_left _ xs W.0 h)))
       where
         go : (A : List ℕ) × (l : ℕ) × (B : List ℕ) × (P ≡ A ++ l ∷ B) × (suc j ≡ length A) → BegunPlace j xs
-        go (A, l, B, p-is, j-is) = ⊎_elim
+        go (A, l, B, p_is, j_is) = ⊎_elim
             (λ e. absurd (let z : ⊥ = omega (arith, ap length e) in z))
             (λ r. let C = r.0 in let a = r.1 in
-            let size : length C ≡ j = omega (arith, j-is, ap length r.2, length-append C (a ∷ [])) in
-            subst (λ z. BegunPlace z xs) size (begun_ahead C a l B (p-is ∙ ap (λ z. z ++ l ∷ B) r.2 ∙ append_assoc C (a ∷ []) (l ∷ B)) (spot i k) (subst (λ z. Mem (occ (suc z) (spot i k)) xs) (sym size) h)))
+            let size : length C ≡ j = omega (arith, j_is, ap length r.2, length-append C (a ∷ [])) in
+            subst (λ z. BegunPlace z xs) size (begun_ahead C a l B (p_is ∙ ap (λ z. z ++ l ∷ B) r.2 ∙ append_assoc C (a ∷ []) (l ∷ B)) (spot i k) (subst (λ z. Mem (occ (suc z) (spot i k)) xs) (sym size) h)))
             (last_of A)
 
     -- begun places are a first portion of the path

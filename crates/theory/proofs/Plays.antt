@@ -36,16 +36,16 @@ module _ (part : ℕ → ℕ → List Event) (P : List ℕ) where
 
   pub sync_next : (seen : List Occ) (e : ℕ → ℕ) → Sync seen e → (x : Occ) → IsOcc part P x → e (inst x) ≡ pos part P x → Sync (x ∷ seen) (bump e (inst x))
   unfolding Sync
-  sync_next seen e S x r at_x y y-real = go (eqb (inst y) (inst x)) refl
+  sync_next seen e S x r at_x y y_real = go (eqb (inst y) (inst x)) refl
     where
       go : (b : Bool) → eqb (inst y) (inst x) ≡ b → Mem y (x ∷ seen) ↔ (pos part P y < cond b (suc (e (inst y))) (e (inst y)))
       go true h = let s : inst y ≡ inst x = eqb-true (inst y) (inst x) h in (
-        ⊎_elim (λ (q : y ≡ x). omega (arith, at_x, ap (pos part P) q, ap e s)) (λ m. omega (arith, (S y y-real).0 m)),
-        λ (q : pos part P y < suc (e (inst y))). ⊎_elim (λ (a : pos part P y < e (inst y)). inr ((S y y-real).1 a)) (λ (a : e (inst y) ≤ pos part P y). inl (same_pos part P y x y-real r s (omega (arith, at_x, ap e s)))) (cases_lt (pos part P y) (e (inst y))),
+        ⊎_elim (λ (q : y ≡ x). omega (arith, at_x, ap (pos part P) q, ap e s)) (λ m. omega (arith, (S y y_real).0 m)),
+        λ (q : pos part P y < suc (e (inst y))). ⊎_elim (λ (a : pos part P y < e (inst y)). inr ((S y y_real).1 a)) (λ (a : e (inst y) ≤ pos part P y). inl (same_pos part P y x y_real r s (omega (arith, at_x, ap e s)))) (cases_lt (pos part P y) (e (inst y))),
       )
       go false h = (
-        ⊎_elim (λ (q : y ≡ x). absurd (eqb-false (inst y) (inst x) h (ap inst q))) (λ m. (S y y-real).0 m),
-        λ q. inr ((S y y-real).1 q),
+        ⊎_elim (λ (q : y ≡ x). absurd (eqb-false (inst y) (inst x) h (ap inst q))) (λ m. (S y y_real).0 m),
+        λ q. inr ((S y y_real).1 q),
       )
 
   pub none_sync : Sync [] nothing

@@ -37,9 +37,9 @@ module _ (part : ℕ → ℕ → List Event) (P Q : List ℕ) where
         let head : d.0 ≡ at (occ j (spot i k)) l v = cc in
         (l, v, d.1, d.2 ∙ ap (λ z. z ∷ d.1) head, (ready_longer i v).1 R))
         (λ (a : length (proj part P i) ≤ e i).
-        let e-is : e i ≡ length (proj part P i) = omega (arith, w i) in
+        let e_is : e i ≡ length (proj part P i) = omega (arith, w i) in
         let left : ahead part (P ++ Q) e i ≡ proj_from part (length P) Q i
-        = rw (e-is, proj_from-++ part 0 P Q i, zero-add) (drop-append_seam (proj part P i) (proj_from part (length P) Q i)) in
+        = rw (e_is, proj_from-++ part 0 P Q i, zero-add) (drop-append_seam (proj part P i) (proj_from part (length P) Q i)) in
         absurd (let z : ⊥ = omega (arith, from part i (length P) Q j k l v xs (sym left ∙ N)) in z))
         (cases_lt (e i) (length (proj part P i)))
 

@@ -12,7 +12,7 @@ use Rattle.theory.specs.Cuts.{done, ahead, Consistent, Ready, Enabled}
 use Rattle.theory.specs.Given.{Paired, Listed}
 use Rattle.theory.specs.Letters.{outs_to, ins_from}
 use Rattle.theory.specs.Projection.{Placed, at, placed, proj_from, proj, pos}
-use Rattle.theory.proofs.Listings.{first-not}
+use Rattle.theory.proofs.Listings.{first_not}
 use Rattle.theory.proofs.Lists.{drop_lt}
 use Rattle.theory.proofs.Projections.{placed-length, dropped, counted, outs-ins, proj_snoc, split, chart_mid, stands_mid}
 use Rattle.theory.proofs.Queues.{waits_iff}
@@ -46,17 +46,17 @@ own_out c i p h k n ys d =
     (r.0, (r.1, n, r.2, ys, r.3, d, r.4))
 
 module _ (part : ℕ → ℕ → List Event) (H : Paired part) (e : ℕ → ℕ) (A : List ℕ) (l : ℕ) (B : List ℕ) (K : Consistent part (A ++ l ∷ B) e)
-    (i k : ℕ) (k-in : k < length (part l i)) (at_k : e i ≡ length (proj part A i) + k) where
+    (i k : ℕ) (k_in : k < length (part l i)) (at_k : e i ≡ length (proj part A i) + k) where
   -- event number k of i is next there: something waits from p just if the out that belongs to it is done
   out_waits : (p a : ℕ) → Belongs (part l) p a i k → (length (proj part A p) + a < e p) ↔ Ready part (A ++ l ∷ B) e i (In 0 p)
   out_waits p a (n, m, us, ws, da, dk, same) =
-      let k-le : k ≤ length (part l i) = omega arith in
+      let k_le : k ≤ length (part l i) = omega arith in
       let a_lt : a < length (part l p) = drop_lt a (part l p) (Out n i) us da in
-      let a-le : a ≤ length (part l p) = omega arith in
+      let a_le : a ≤ length (part l p) = omega arith in
       let count : length (outs_to i (take (length (proj part A p) + a) (proj part (A ++ l ∷ B) p))) ≡ length (ins_from p (done part (A ++ l ∷ B) e i))
-      = rw (at_k, counted part (out_to i) A l B p a a-le, counted part (in_from p) A l B i k k-le, outs-ins part H A p i, same) in
+      = rw (at_k, counted part (out_to i) A l B p a a_le, counted part (in_from p) A l B i k k_le, outs-ins part H A p i, same) in
       waits_iff part H (A ++ l ∷ B) e K p i (length (proj part A p) + a) (length A) (spot p a) l n (placed (length A) l p (suc a) us ++ proj_from part (suc (length A)) B p)
-      (dropped part A l B p a a-le ∙ ap (λ es. placed (length A) l p a es ++ proj_from part (suc (length A)) B p) da) count
+      (dropped part A l B p a a_le ∙ ap (λ es. placed (length A) l p a es ++ proj_from part (suc (length A)) B p) da) count
 
   -- it can be done just if the out that belongs to it, if it is an in, is done
   pub enabled_mid : Enabled part (A ++ l ∷ B) e (occ (length A) (spot i k)) ↔ ((p a : ℕ) → Belongs (part l) p a i k → length (proj part A p) + a < e p)
@@ -64,7 +64,7 @@ module _ (part : ℕ → ℕ → List Event) (H : Paired part) (e : ℕ → ℕ)
     where
       s : (v : Event) × (ws : List Event) × (drop k (part l i) ≡ v ∷ ws)
           × (drop (length (proj part A i) + k) (proj part (A ++ l ∷ B) i) ≡ at (occ (length A) (spot i k)) l v ∷ (placed (length A) l i (suc k) ws ++ proj_from part (suc (length A)) B i))
-      s = stands_mid part (A ++ l ∷ B) A l B i k refl k-in
+      s = stands_mid part (A ++ l ∷ B) A l B i k refl k_in
 
       v : Event
       v = s.0
@@ -79,8 +79,8 @@ module _ (part : ℕ → ℕ → List Event) (H : Paired part) (e : ℕ → ℕ)
       there (l', w, xs, N, R) p a g =
           let both : at (occ (length A) (spot i k)) l v ∷ ys ≡ at (occ (length A) (spot i k)) l' w ∷ xs = sym next ∙ N in
           let head : v ∷ s.1 ≡ In g.1 p ∷ g.3 = sym s.2 ∙ g.5 in
-          let w-is : w ≡ In g.1 p = cc in
-          (out_waits p a g).1 (subst (Ready part (A ++ l ∷ B) e i) w-is R)
+          let w_is : w ≡ In g.1 p = cc in
+          (out_waits p a g).1 (subst (Ready part (A ++ l ∷ B) e i) w_is R)
 
       ready : ((p a : ℕ) → Belongs (part l) p a i k → length (proj part A p) + a < e p) → (w : Event) → v ≡ w → Ready part (A ++ l ∷ B) e i w
       ready outs (Out n q) h = tt
@@ -99,10 +99,10 @@ module _ (part : ℕ → ℕ → List Event) (H : Paired part) (e : ℕ → ℕ)
       → Enabled part P e (occ j (spot i k)) ↔ ((p a : ℕ) → Belongs (chart_at part P j) p a i k → pos part P (occ j (spot p a)) < e p)
 
   opens_mid : (i k : ℕ) (A : List ℕ) (l : ℕ) (B : List ℕ) → Opens i k (A ++ l ∷ B) (length A)
-  opens_mid i k A l B K = rw (fun_ext (chart_mid part A l B), take-append_seam) (λ k-in at_k. enabled_mid part H e A l B K i k k-in at_k)
+  opens_mid i k A l B K = rw (fun_ext (chart_mid part A l B), take-append_seam) (λ k_in at_k. enabled_mid part H e A l B K i k k_in at_k)
 
   pub opens : (i k : ℕ) (P : List ℕ) (j : ℕ) → Opens i k P j
-  opens i k P j K k-in = let r = split part P j i k k-in in go r.0 r.1 r.2 r.3 r.4 K k-in
+  opens i k P j K k_in = let r = split part P j i k k_in in go r.0 r.1 r.2 r.3 r.4 K k_in
     where
       go : (A : List ℕ) (l : ℕ) (B : List ℕ) → P ≡ A ++ l ∷ B → j ≡ length A → Opens i k P j
       go A l B q w = rw (q, w) (opens_mid i k A l B)
@@ -120,10 +120,10 @@ module _ (part : ℕ → ℕ → List Event) (H : Paired part) (G : Listed part)
   here : (A : List ℕ) (l : ℕ) (B : List ℕ) → Consistent part (A ++ l ∷ B) e → ((i : ℕ) → length (proj part A i) ≤ e i)
       → (x : Occ) → IsOcc part (l ∷ []) x → (Passed A x → ⊥) → ((y : Occ) → Before part (l ∷ []) y x → Passed A y) → (x : Occ) × Enabled part (A ++ l ∷ B) e x
   unfolding Passed
-  here A l B K past (occ (suc j) (spot i k)) k-in not_yet before = absurd (let z : ⊥ = omega arith in z)
-  here A l B K past (occ zero (spot i k)) k-in not_yet before = (
+  here A l B K past (occ (suc j) (spot i k)) k_in not_yet before = absurd (let z : ⊥ = omega arith in z)
+  here A l B K past (occ zero (spot i k)) k_in not_yet before = (
     occ (length A) (spot i k),
-    (enabled_mid part H e A l B K i k k-in (at_k k refl)).1
+    (enabled_mid part H e A l B K i k k_in (at_k k refl)).1
         (λ p a b. before (occ 0 (spot p a)) (link (drop_lt a (part l p) _ _ b.4, inr (refl, inr b)))),
   )
     where
@@ -144,7 +144,7 @@ module _ (part : ℕ → ℕ → List Event) (H : Paired part) (G : Listed part)
   progress_from (l ∷ B) A K past i h = ⊎_elim
       (λ all. rw (← append_snoc A l B) (progress_from B (A ++ l ∷ []) (rw (← append_snoc A l B) at K) (all_past A l past all) i (rw (← append_snoc A l B) at h)))
       (λ r. here A l B K past r.0 ((G l).1.real r.0 r.1) r.2 r.3)
-      (first-not (Before part (l ∷ [])) (Passed A) (passed? A) [] (G l).0 (G l).1.order (λ x m. absurd m))
+      (first_not (Before part (l ∷ [])) (Passed A) (passed? A) [] (G l).0 (G l).1.order (λ x m. absurd m))
 
   pub progress : (P : List ℕ) → Consistent part P e → (i : ℕ) → e i < length (proj part P i) → (x : Occ) × Enabled part P e x
   progress P K = progress_from P [] K (λ i. omega arith)

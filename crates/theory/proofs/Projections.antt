@@ -11,7 +11,7 @@ use Rattle.msc.specs.declared.event.Event.{Event}
 use Rattle.theory.specs.Given.{Paired}
 use Rattle.theory.specs.Letters.{tag, tags, outs_to, ins_from}
 use Rattle.theory.specs.Projection.{Placed, at, placed, proj_from, proj, pos}
-use Rattle.theory.proofs.Lists.{joined-++, drop-has}
+use Rattle.theory.proofs.Lists.{flat_map-++, drop-has}
 
 pub placed-length : (j l i k : ℕ) (es : List Event) → length (placed j l i k es) ≡ length es
 placed-length j l i k [] = refl
@@ -47,7 +47,7 @@ module _ (part : ℕ → ℕ → List Event) where
   -- all messages out from p to q along a path are all messages in at q from p
   pub outs-ins_from : Paired part → (j : ℕ) (P : List ℕ) (p q : ℕ) → outs_to q (proj_from part j P p) ≡ ins_from p (proj_from part j P q)
   outs-ins_from h j [] p q = refl
-  outs-ins_from h j (l ∷ P) p q = simp (joined-++, tags-placed, h l p q, outs-ins_from h (suc j) P p q)
+  outs-ins_from h j (l ∷ P) p q = simp (flat_map-++, tags-placed, h l p q, outs-ins_from h (suc j) P p q)
 
   pub outs-ins : Paired part → (P : List ℕ) (p q : ℕ) → outs_to q (proj part P p) ≡ ins_from p (proj part P q)
   outs-ins h P p q = outs-ins_from h 0 P p q
@@ -69,7 +69,7 @@ module _ (part : ℕ → ℕ → List Event) where
   -- how many messages f picks ahead of that event
   pub counted : (f : Event → List ℕ) (A : List ℕ) (l : ℕ) (B : List ℕ) (i k : ℕ) → k ≤ length (part l i)
       → length (flat_map (tags f) (take (length (proj part A i) + k) (proj part (A ++ l ∷ B) i))) ≡ length (flat_map (tags f) (proj part A i)) + length (picked f (take k (part l i)))
-  counted f A l B i k h = rw (taken A l B i k h, joined-++, length-append, tags-placed, length-map)
+  counted f A l B i k h = rw (taken A l B i k h, flat_map-++, length-append, tags-placed, length-map)
 
   -- the events of a place come ahead of those of a later one
   pub mono : (m : ℕ) (P : List ℕ) (j j' i k : ℕ) → j < j' → k < length (chart_at part P j i) → length (proj_from part m (take j P) i) + k < length (proj_from part m (take j' P) i)
@@ -123,20 +123,20 @@ module _ (part : ℕ → ℕ → List Event) where
     pub stands_mid : (A : List ℕ) (l : ℕ) (B : List ℕ) (i k : ℕ) → P ≡ A ++ l ∷ B → k < length (part l i)
         → (v : Event) × (ws : List Event) × (drop k (part l i) ≡ v ∷ ws)
         × (drop (length (proj part A i) + k) (proj part P i) ≡ at (occ (length A) (spot i k)) l v ∷ (placed (length A) l i (suc k) ws ++ proj_from part (suc (length A)) B i))
-    stands_mid A l B i k p-is h =
+    stands_mid A l B i k p_is h =
         let d = drop-has k (part l i) h in
-        let k-le : k ≤ length (part l i) = omega arith in
-        (d.0, d.1, d.2, rw (p-is, dropped A l B i k k-le, d.2))
+        let k_le : k ≤ length (part l i) = omega arith in
+        (d.0, d.1, d.2, rw (p_is, dropped A l B i k k_le, d.2))
 
     pub stands : (x : Occ) → IsOcc part P x → (l : ℕ) × (v : Event) × (xs : List Placed) × (drop (pos part P x) (proj part P (inst x)) ≡ at x l v ∷ xs)
     stands (occ j (spot i k)) r = go (split P j i k r)
       where
         go : (A : List ℕ) × (l : ℕ) × (B : List ℕ) × (P ≡ A ++ l ∷ B) × (j ≡ length A) → (l : ℕ) × (v : Event) × (xs : List Placed) × (drop (pos part P (occ j (spot i k))) (proj part P i) ≡ at (occ j (spot i k)) l v ∷ xs)
-        go (A, l, B, p-is, j-is) =
-            let chart : chart_at part P j i ≡ part l i = ap (λ z. chart_at part z j i) p-is ∙ ap (λ z. chart_at part (A ++ l ∷ B) z i) j-is ∙ chart_mid A l B i in
-            let front : take j P ≡ A = ap (λ z. take z P) j-is ∙ ap (take (length A)) p-is ∙ take-append_seam A (l ∷ B) in
-            let s = stands_mid A l B i k p-is (omega (arith, ap length chart)) in
-            made A l B j-is front s.0 s.1 s.3
+        go (A, l, B, p_is, j_is) =
+            let chart : chart_at part P j i ≡ part l i = ap (λ z. chart_at part z j i) p_is ∙ ap (λ z. chart_at part (A ++ l ∷ B) z i) j_is ∙ chart_mid A l B i in
+            let front : take j P ≡ A = ap (λ z. take z P) j_is ∙ ap (take (length A)) p_is ∙ take-append_seam A (l ∷ B) in
+            let s = stands_mid A l B i k p_is (omega (arith, ap length chart)) in
+            made A l B j_is front s.0 s.1 s.3
           where
             made : (A : List ℕ) (l : ℕ) (B : List ℕ) → j ≡ length A → take j P ≡ A → (v : Event) (ws : List Event)
                 → drop (length (proj part A i) + k) (proj part P i) ≡ at (occ (length A) (spot i k)) l v ∷ (placed (length A) l i (suc k) ws ++ proj_from part (suc (length A)) B i)
@@ -146,8 +146,8 @@ module _ (part : ℕ → ℕ → List Event) where
     -- whatever stands at a number is an occurrence with that position
     pub stands_pos : (i n : ℕ) (x : Occ) (l : ℕ) (v : Event) (xs : List Placed) → drop n (proj part P i) ≡ at x l v ∷ xs → n < length (proj part P i)
         → IsOcc part P x × (inst x ≡ i) × (pos part P x ≡ n)
-    stands_pos i n x l v xs h n-lt =
-        let f = find 0 P i n n-lt in
+    stands_pos i n x l v xs h n_lt =
+        let f = find 0 P i n n_lt in
         let s = stands (occ f.0 (spot i f.1)) f.2 in
         let both : at (occ f.0 (spot i f.1)) s.0 s.1 ∷ s.2 ≡ at x l v ∷ xs = sym s.3 ∙ ap (λ z. drop z (proj part P i)) f.3 ∙ h in
         let x_is : occ f.0 (spot i f.1) ≡ x = cc in

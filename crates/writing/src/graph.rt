@@ -3,7 +3,7 @@ ghost use Rattle.std.specs.Prelude.{◌≡◌, [], map, slice_index_or};
 ghost use Rattle.std.specs.List.{flat_map};
 ghost use Rattle.msc.specs.Doc.{label_names};
 ghost use Rattle.msc.specs.Shortest.{graph_tokens};
-ghost use Rattle.msc.specs.Stored.{doc_of, body_of as bodyHeld, label_of as labelHeld};
+ghost use Rattle.msc.specs.Stored.{doc_of, body_of as body_held, label_of as label_held};
 ghost use Rattle.writing.specs.Pens.{penned, page_of};
 ghost use Rattle.writing.specs.Walks.{list_of, body_of, label_of};
 
@@ -33,7 +33,7 @@ impl Pen {
 
     // end, or (name)seq(list)
     pub(crate) fn body(&mut self, document: &Document, body: &Body)
-        ensures { page_of self.new ≡ penned (doc_of document.now.tables).words (page_of self.old) (body_of (doc_of document.now.tables) (bodyHeld body.now)) }
+        ensures { page_of self.new ≡ penned (doc_of document.now.tables).words (page_of self.old) (body_of (doc_of document.now.tables) (body_held body.now)) }
     {
         let words = &document.tables.words;
         match body {
@@ -53,7 +53,7 @@ impl Pen {
 
     // name : body ;
     pub(crate) fn label(&mut self, document: &Document, label: &Label)
-        ensures { page_of self.new ≡ penned (doc_of document.now.tables).words (page_of self.old) (label_of (doc_of document.now.tables) (labelHeld label.now)) }
+        ensures { page_of self.new ≡ penned (doc_of document.now.tables).words (page_of self.old) (label_of (doc_of document.now.tables) (label_held label.now)) }
     {
         self.word(label.name.as_bytes());
         self.sign(Symbol::Colon);
@@ -87,7 +87,7 @@ impl Pen {
 
 // The name of a label; empty for what is no label.
 fn label_name(labels: &[Label], n: usize) -> &[u8]
-    ensures { result.now ≡ slice_index_or (label_names (map labelHeld labels.now)) n [] }
+    ensures { result.now ≡ slice_index_or (label_names (map label_held labels.now)) n [] }
 {
     if n < labels.len() {
         let label = &labels[n];

@@ -2,7 +2,7 @@
 ghost use Rattle.std.specs.Prelude.{◌≡◌, true, false, [], ◌∷◌};
 ghost use Rattle.msc.specs.Rows.{items_of};
 ghost use Rattle.msc.specs.Spelling.{spellings_of};
-ghost use Rattle.msc.specs.Tokens.{rank, spelling, «sign_byte»};
+ghost use Rattle.msc.specs.Tokens.{rank, spelling, sign_byte};
 ghost use Rattle.writing.specs.Pens.{on, blank, page_of};
 
 use crate::append::append;
@@ -40,7 +40,7 @@ impl Pen {
 
     // A symbol.
     pub(crate) fn sign(&mut self, x: Symbol)
-        ensures { page_of self.new ≡ on (page_of self.old) false («sign_byte» x ∷ []) }
+        ensures { page_of self.new ≡ on (page_of self.old) false (sign_byte x ∷ []) }
     {
         append(&mut self.page, &[byte_of(x)]);
         self.after = false;
@@ -56,7 +56,7 @@ impl Pen {
 }
 
 fn byte_of(x: Symbol) -> u8
-    ensures { result ≡ «sign_byte» x }
+    ensures { result ≡ sign_byte x }
 {
     match x {
         Symbol::Open => b'(',

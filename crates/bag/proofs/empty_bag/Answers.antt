@@ -1,5 +1,5 @@
 use Rattle.std.proofs.Common.{arith}
-use Rattle.bag.proofs.Emptying.{left_none, left_more, left-all}
+use Rattle.bag.proofs.Emptying.{left_none, left_more, left_all}
 use Rattle.bag.proofs.empty_bag.Goals as goal
 
 pub loop-done-init : goal.loop-done-init
@@ -16,4 +16,4 @@ pub returns : goal.returns
 returns g c = λ s.
     let b = g.B.Bag in
     let n = c.count-n.ensures s in
-    left-all b.sound b.held b.space c.args.bag.now c.loop-done.bag c.loop-done._done (c.loop-done.invariant s) (omega arith)
+    left_all b.sound b.held b.space c.args.bag.now c.loop-done.bag c.loop-done._done (c.loop-done.invariant s) (omega arith)

@@ -1,7 +1,7 @@
 use Rattle.std.proofs.Common.{◌≤◌, length, sym, ap, ◌∙◌, arith, take_all}
 use Rattle.bag.proofs.Shown.{shown_there}
 use Rattle.restorer.specs.Stamps.{tally}
-use Rattle.restorer.proofs.Tallies.{tally-next}
+use Rattle.restorer.proofs.Tallies.{tally_next}
 use Rattle.restorer.proofs.Seeks.{none_sought, here_sought}
 use Rattle.restorer.proofs.seek.Goals as goal
 use Rattle.restorer.proofs.seek.Goals.{in-Ok+else-is_sought, in_default}
@@ -15,7 +15,7 @@ loop-i-preserved g c = λ s.
     let xs = g.B.Bag.held c.args.bag.now in
     let n = c.count-n.ensures s in
     elim c.match-show.branch [
-      | in-Ok+else-is_sought v ↦ tally-next c.args.from c.args.to c.args.stamp xs c.loop-i.i v.in-Ok.item (sym (v.in-Ok.ensures s)) (sym v.if-is_sought.ensures) (c.loop-i.invariant s)
+      | in-Ok+else-is_sought v ↦ tally_next c.args.from c.args.to c.args.stamp xs c.loop-i.i v.in-Ok.item (sym (v.in-Ok.ensures s)) (sym v.if-is_sought.ensures) (c.loop-i.invariant s)
       | in_default v ↦ let y = shown_there xs c.loop-i.i (omega arith) in absurd (v.in_default.not-Ok y.0 (c.show.ensures s ∙ y.1))
     ]
 

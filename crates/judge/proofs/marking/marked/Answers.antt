@@ -1,7 +1,7 @@
 use Rattle.std.proofs.Common.{true, set, sym, refl, ◌∙◌, arith, length-set}
 use Rattle.judge.specs.Checks.{next_mark, unmarked, marked}
 use Rattle.order.specs.Meant.{meant}
-use Rattle.order.proofs.Scanned.{lowest_some, repeat-next, repeat_stop, repeat_end}
+use Rattle.order.proofs.Scanned.{lowest_some, repeat_next, repeat_stop, repeat_end}
 use Rattle.judge.proofs.marking.marked.Goals as goal
 
 pub loop-init : goal.loop-init
@@ -16,7 +16,7 @@ returns-in-None c = repeat_stop (next_mark (meant c.args.document.now)) (λ mark
 
 pub loop-preserved : goal.loop-preserved
 loop-preserved c = (
-  repeat-next (next_mark (meant c.args.document.now)) (λ marks x. set marks x true) c.loop.counter 64 c.loop.marks c.in-Some.x c.loop-test.true (sym c.in-Some.ensures) ∙ c.loop.invariant.0,
+  repeat_next (next_mark (meant c.args.document.now)) (λ marks x. set marks x true) c.loop.counter 64 c.loop.marks c.in-Some.x c.loop-test.true (sym c.in-Some.ensures) ∙ c.loop.invariant.0,
   length-set c.loop.marks c.in-Some.x true ∙ c.loop.invariant.1,
 )
 

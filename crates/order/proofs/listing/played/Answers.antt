@@ -2,7 +2,7 @@ use Rattle.std.proofs.Common.{◌+◌, get_or, sym, refl, ◌∙◌, arith, leng
 use Rattle.order.specs.Charts.{ready, can_play, advanced, played}
 use Rattle.order.specs.Meant.{meant}
 use Rattle.order.proofs.Greedy.{nothing}
-use Rattle.order.proofs.Scanned.{lowest_some, repeat-next, repeat_stop, repeat_end}
+use Rattle.order.proofs.Scanned.{lowest_some, repeat_next, repeat_stop, repeat_end}
 use Rattle.order.proofs.Walks.{raised}
 use Rattle.order.proofs.listing.played.Goals as goal
 
@@ -24,7 +24,7 @@ returns-in-None c = repeat_stop (ready ((meant c.args.document.now).drawn c.args
 
 pub loop-preserved : goal.loop-preserved
 loop-preserved c = (
-  repeat-next (ready ((meant c.args.document.now).drawn c.args.chart)) (advanced ((meant c.args.document.now).drawn c.args.chart)) c.loop.counter 64 c.loop.done c.in-Some.i c.loop-test.true (sym c.in-Some.ensures) ∙ c.loop.invariant.0,
+  repeat_next (ready ((meant c.args.document.now).drawn c.args.chart)) (advanced ((meant c.args.document.now).drawn c.args.chart)) c.loop.counter 64 c.loop.done c.in-Some.i c.loop-test.true (sym c.in-Some.ensures) ∙ c.loop.invariant.0,
   length-set c.loop.done c.in-Some.i (get_or c.loop.done c.in-Some.i 0 + 1) ∙ c.loop.invariant.1,
   raised c.loop.done c.in-Some.i c.loop.counter c.loop.invariant.2,
 )

@@ -4,7 +4,7 @@ use Rattle.msc.specs.Stored.{doc_of}
 use Rattle.lexis.specs.Readers.{words_of}
 use Rattle.forms.proofs.Found.{found}
 use Rattle.forms.proofs.Spots.{spots_inside}
-use Rattle.reading.proofs.Regroup.{handed-on, by_err, writes_none}
+use Rattle.reading.proofs.Regroup.{handed_on, by_err, writes_none}
 use Rattle.reading.proofs.read.read.Goals as goal
 
 pub invariant_of-result : goal.invariant_of-result
@@ -18,7 +18,7 @@ returns-in_err-tables c =
     let ws = words_of c.args.words.now in
     let h = c.in_err-tables.ensures in
     record {
-      reads = handed-on _ _ _ _ _ p.1 p.2 h;
+      reads = handed_on _ _ _ _ _ p.1 p.2 h;
       exactly = by_err _ _ _ _ _ p.1 p.2 (writes_none ws c.args.text.now _ h);
       spot = by_err _ _ _ _ _ p.1 p.2 (spots_inside ws c.args.text.now _ (sym h));
     }
