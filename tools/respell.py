@@ -3,15 +3,16 @@
 
 usage: respell.py [--dry]     at the top of the repository, once, after the toolchain's own script
 
-Words are in snake case, types, facts and modules in upper camel case, and a dash joins two names:
+Words are in snake case, types, facts and modules in upper camel case, and a dash joins two names. Declared is what the
+.antt files right in specs/ and proofs/ declare; what is turned is turned wherever it stands.
 
-- A name that begins with a small letter and has a capital inside is turned (`isPair` to `is_pair`), wherever an .antt
-  file declares it, and inside the names that are built on it (`length-restOf` to `length-rest_of`).
+- A declared name that begins with a small letter and has a capital inside is turned (`isPair` to `is_pair`), also inside
+  the names that are built on it (`length-restOf` to `length-rest_of`).
 - A fact of specs/ has no dash (`Reads-back` to `ReadsBack`), nor has a field of a record there (`to-end` to `to_end`).
 - In a lemma's name a dash stays where it joins two names, of definitions here or of the library's words, or where a
   symbol follows (`outs-++`). A plain word is added with `_` (`plays-longer` to `plays_longer`).
 - A lemma that would get the name of something else gets `_lem` behind it.
-- What these rules cannot see stands in the table BY_HAND.
+- What these rules cannot see stands in the tables below.
 - Names of the library stay: they are the words that the repository imports from it. So do the names that the check
   gives to goals, and the functions, comments and strings of .rt files. Edits below must-fail/ are turned like the code.
 """
@@ -21,35 +22,38 @@ import sys
 
 NAME = re.compile(r"[A-Za-z_ℕℤ][\w'ℕℤ]*(?:-[\w'ℕℤ+*≤<=∷]+)*")
 DECLARATION = re.compile(
-    r"^(\s*)(?:abbrev |unfoldable )?(?:pub )?((?:record|data) )?([A-Za-z_][\w']*(?:-[\w'+*≤<=∷]+)*)\s*(?:\(.*\)|\{.*\})?\s*:"
+    r"^\s*(?:abbrev |unfoldable )?(?:pub )?(?:(?:record|data) )?([A-Za-z_][\w']*(?:-[\w'+*≤<=∷]+)*)\s*(?:\(.*\)|\{.*\})?\s*:"
 )
 OWN = re.compile(r"^crates/\w+/(specs|proofs)/\w+\.antt$")
-IMPORT = re.compile(r"use (?:Rattle\.(?:std|logic)|mathlib|Prim|lib)\b[\w.]*\.\{([^}]*)\}")
+IMPORT = re.compile(r"use (?:Rattle\.std|mathlib|lib)\b[\w.]*\.\{([^}]*)\}")
 
 
 def snake(name):
     return re.sub(r"([a-z0-9])([A-Z])", lambda m: m[1] + "_" + m[2], name).lower()
 
 
-# A lemma of .antt files that has the name which the definition beside it gets.
-FELL_TOGETHER = {"turns_at": "turns_at_lem"}
-# Local names; behind a dot such a word is one that the check gives.
+# Lemmas that have, since the toolchain's script or ever, the name which a definition gets.
+FELL_TOGETHER = {"turns_at": "turns_at_lem", "has_room": "room_has"}
+# Names that a proof gives to a step or a variable, and lemmas that stand beside the answers to goals.
 LOCAL = (
     "A-size a-is a-le built-in-sound d-is e-is front-in j-is k-in k-le l-is m-is n-is n-lt no-c ns-is p-is p-is' q-is r-is "
     "step-waiting t-is text-is u-size w-is y-real yes-at"
 ).split()
+# Lemmas whose last word is a plain word that only happens to be the name of something else.
 PLAIN_WORDS = (
     "first-not first-zero handed-on is-one-first left-all not-all not-both place-next repeat-next repeat-on resolve-back "
     "tally-next tally-on whole-complete whole-real zero-chart"
 ).split()
+# Names under which .rt files import a definition.
 IN_CLAUSES = "bodyHeld brokenOf coversOf isNext labelHeld markedOf playedOf readyOf startsOf".split()
-# Lemmas whose last word only happens to be the name of something else; names that .rt files give to imported
-# definitions; a fact in small letters; a lemma with an older name of the library's word.
+# All of these, a fact in small letters, and a lemma with an older name of the library's word.
 BY_HAND = (
     {name: name.replace("-", "_") for name in LOCAL + PLAIN_WORDS}
     | {name: snake(name) for name in IN_CLAUSES}
     | {"sameInstance": "SameInstance", "joined-++": "flat_map-++"}
 )
+# Behind a dot these words are fields and modules that the check makes.
+NOT_BEHIND_A_DOT = {*LOCAL, *FELL_TOGETHER}
 
 
 def files(ends):
@@ -89,8 +93,8 @@ class Declared:
             if in_record is not None and line.strip() and indent <= in_record:
                 in_record = None
             m = DECLARATION.match(line)
-            if m and m[3] not in ("use", "open"):
-                name = m[3]
+            if m:
+                name = m[1]
                 self.names.add(name)
                 if not indent:
                     self.top.add(name)
@@ -98,7 +102,7 @@ class Declared:
                     self.facts.add(name)
                 if specs and in_record is not None:
                     self.fields.add(name)
-            if re.match(r"\s*(?:abbrev |unfoldable )?(?:pub )?record .*where\s*$", line):
+            if re.match(r"\s*(?:pub )?record .*where\s*$", line):
                 in_record = indent
 
 
@@ -157,7 +161,7 @@ def main():
 
     def turned(text, skip=()):
         def one(m):
-            stays = m[0] in skip or m[0] in LOCAL and text[m.start() - 1 : m.start()] == "."
+            stays = m[0] in skip or m[0] in NOT_BEHIND_A_DOT and text[m.start() - 1 : m.start()] == "."
             return m[0] if stays else full.get(m[0], m[0])
 
         return NAME.sub(one, text)
