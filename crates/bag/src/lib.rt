@@ -9,7 +9,7 @@ ghost use Rattle.bag.specs.Calls.{Put, Take, Emptied};
 use channel::{Letter, Refusal};
 
 // A letter with its sender, its receiver and its number in the sequence of their letters.
-#[derive(Clone, Copy)]
+#[derive(Clone, Copy, Default)]
 pub struct Stamped {
     pub from: u8,
     pub to: u8,

@@ -1,5 +1,5 @@
 -- The queues of a channel, and what its calls answer and leave, over those queues.
-use Rattle.std.specs.Prelude.{ℕ, zero, suc, ◌+◌, Bool, cond, not, ◌&&◌, List, [], ◌∷◌, ◌++◌, length, Ok, Err, Result, ◌==◌, nat_lt}
+use Rattle.std.specs.Prelude.{ℕ, zero, suc, ◌+◌, Bool, cond, not, ◌&&◌, List, [], ◌∷◌, ◌++◌, length, Ok, Err, Option, Result, ok_or, ◌==◌, nat_lt}
 use Rattle.channel.specs.declared.Letter.{Letter}
 use Rattle.channel.specs.declared.Refusal.{Refusal}
 use Rattle.channel.specs.declared.Refusal.TheVariants.{NotAPair, Full, Empty}
@@ -46,6 +46,10 @@ headless w from to f t = cond (same_pair from to f t) (rest_of (w f t)) (w f t)
 -- what head and take answer
 abbrev pub head_of : Waits → ℕ → ℕ → Result Letter Refusal
 head_of w from to = cond (is_pair from to) (first_of (w from to)) (Err NotAPair)
+
+-- where a pair's oldest letter stands, of which o is the place, or the refusal where there is none
+abbrev pub place_of : ℕ → ℕ → Option ℕ → Result ℕ Refusal
+place_of from to o = cond (is_pair from to) (ok_or o Empty) (Err NotAPair)
 
 -- what put answers: a pair is refused for want of room alone
 abbrev pub put_of : Waits → ℕ → ℕ → ℕ → Result (Unit {0}) Refusal

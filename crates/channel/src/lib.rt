@@ -1,50 +1,21 @@
 // Letters, and what a channel of letters means.
 #![tactic(auto)]
 
-ghost use Rattle.std.specs.Prelude.{◌≡◌, ℕ, ◌≤◌, false, List, [], Decides};
+ghost use Rattle.std.specs.Prelude.{◌≡◌, ℕ, ◌≤◌, false, List, []};
 ghost use Rattle.channel.specs.declared.Letter.{Letter};
 ghost use Rattle.channel.specs.Refusals.{number_of};
-ghost use Rattle.channel.specs.Same.{same_letters};
 ghost use Rattle.channel.specs.Waits.{is_pair, total, head_of};
 ghost use Rattle.channel.specs.Calls.{Put, Take};
-ghost use Rattle.std.specs.Cmp.Rules.{comparing};
-ghost use Rattle.std.proofs.Common.{rules};
 
 // A letter is the header of one message on its way: the label and the place of the chart's copy
 // that it belongs to, the message name's number, and the sender's turns, one for each instance.
-#[derive(Clone, Copy, Eq, Debug)]
+// Letters are equal if all their fields are.
+#[derive(Clone, Copy, Debug, Default, PartialEq, Eq)]
 pub struct Letter {
     pub label: u8,
     pub name: u8,
     pub place: u16,
     pub turns: [u16; 8],
-}
-
-impl Letter {
-    // A letter of zeros, with which empty tables are filled.
-    pub const BLANK: Letter = Letter {
-        label: 0,
-        name: 0,
-        place: 0,
-        turns: [0; 8],
-    };
-}
-
-// Letters are equal if all their fields are.
-impl PartialEq for Letter {
-    ghost eq = { same_letters };
-
-    ghost laws = { Prim.search (comparing, rules) };
-
-    fn eq(&self, other: &Letter) -> bool
-        ensures value { result ≡ same_letters self.now other.now }
-        ensures decides { Decides result (self.now ≡ other.now) }
-    {
-        if self.label != other.label || self.name != other.name || self.place != other.place {
-            return false;
-        }
-        self.turns == other.turns
-    }
 }
 
 // Why a call of a channel or a bag is refused.
@@ -59,7 +30,7 @@ pub enum Refusal {
 }
 
 impl Refusal {
-    // The number under which the refusal is reported.
+    // The number under which the refusal is reported, by a rule of the project.
     pub fn number(self) -> u8
         ensures { result ≡ number_of self }
     {

@@ -1,111 +1,85 @@
 -- What one slot more or less does to the letters of each pair.
-use Rattle.std.specs.Prelude.{◌≡◌, ℕ, zero, suc, ◌+◌, ◌<◌, ◌≤◌, true, false, cond, List, [], ◌∷◌, ◌++◌, length, get_or, take, drop, Ok, slice_index_or, refl}
-use Rattle.std.proofs.Common.{sym, ap, ◌∙◌, ⊎_elim, arith, take-append-drop, drop-cons}
+use Rattle.std.specs.Prelude.{◌≡◌, ℕ, zero, suc, ◌<◌, true, false, cond, List, [], ◌∷◌, ◌++◌, length, get_or, find, refl}
+use Rattle.std.proofs.Common.{map, filter, option_map, ap, ◌∙◌, ⊎_elim, arith}
 use Rattle.std.proofs.Math.Path.{fun_ext}
 use Rattle.std.specs.List.{remove}
-use Rattle.std.proofs.lemmas.List.{append-nil, take_more, get_or_default, get_or-take, take-take, length-take-le}
-use Rattle.std.proofs.lemmas.Bool.{cases_Bool, both_ways}
-use Rattle.channel.specs.Waits.{is_pair, same_pair, total, first_of, added, headless}
+use Rattle.std.specs.Option.{ok_or}
+use Rattle.std.proofs.lemmas.List.{append-nil, map-append}
+use Rattle.std.proofs.lemmas.List.Elements.{filter-append}
+use Rattle.std.proofs.lemmas.Bool.{cases_Bool, both_ways, and_parts, and_from}
+use Rattle.channel.specs.declared.Refusal.TheVariants.{Empty}
+use Rattle.channel.specs.Waits.{Waits, is_pair, same_pair, total, first_of, added, headless}
 use Rattle.channel.proofs.Totals.{total_more, total_none}
 use Rattle.channel.proofs.Pairs.{same_pair_self, same_pair-true, pair_parts}
-use Rattle.lanes.specs.declared.table.Slot.{Slot}
-use Rattle.lanes.specs.Slots.{queue_of, AllPairs}
+use Rattle.lanes.specs.declared.slot.Slot.{Slot}
+use Rattle.lanes.specs.Slots.{is_of, queue_of, AllPairs}
 
-pub letters_append : (f t : ℕ) (xs ys : List Slot) → queue_of f t (xs ++ ys) ≡ queue_of f t xs ++ queue_of f t ys
-letters_append f t [] ys = refl
-letters_append f t (x ∷ xs) ys =
-    let ih = letters_append f t xs ys in
-    elim (same_pair x.from x.to f t) as (λ b. cond b (x.letter ∷ queue_of f t (xs ++ ys)) (queue_of f t (xs ++ ys)) ≡ cond b (x.letter ∷ queue_of f t xs) (queue_of f t xs) ++ queue_of f t ys) [ true ↦ ap (λ l. x.letter ∷ l) ih | false ↦ ih ]
+abbrev queues : List Slot → Waits
+queues xs f t = queue_of f t xs
 
-pub pairs_append : (xs ys : List Slot) → AllPairs xs → AllPairs ys → AllPairs (xs ++ ys)
-pairs_append [] ys p q = q
-pairs_append (x ∷ xs) ys p q = (p.0, pairs_append xs ys p.1 q)
+pairs_parts : (x : Slot) (xs : List Slot) → AllPairs (x ∷ xs) → (is_pair x.from x.to ≡ true) × AllPairs xs
+pairs_parts x xs p = and_parts _ _ p
 
-pub pairs_take : (i : ℕ) (xs : List Slot) → AllPairs xs → AllPairs (take i xs)
-pairs_take zero xs p = tt
-pairs_take (suc i) [] p = tt
-pairs_take (suc i) (x ∷ xs) p = (p.0, pairs_take i xs p.1)
-
-pub pairs_drop : (i : ℕ) (xs : List Slot) → AllPairs xs → AllPairs (drop i xs)
-pairs_drop zero xs p = p
-pairs_drop (suc i) [] p = tt
-pairs_drop (suc i) (x ∷ xs) p = pairs_drop i xs p.1
-
-pub total-rows : (xs : List Slot) → AllPairs xs → total (λ f t. queue_of f t xs) ≡ length xs
+pub total-rows : (xs : List Slot) → AllPairs xs → total (queues xs) ≡ length xs
 total-rows [] p = total_none (λ f t. []) (λ f t. refl)
 total-rows (x ∷ xs) p =
-    let ih = total-rows xs p.1 in
-    let q = pair_parts x.from x.to p.0 in
-    let m = total_more (λ f t. queue_of f t xs) (λ f t. queue_of f t (x ∷ xs)) x.from x.to q.0 q.1 (rw (same_pair_self x.from x.to) (omega arith)) (λ f t ne. rw ne refl) in
+    let h = pairs_parts x xs p in
+    let ih = total-rows xs h.1 in
+    let q = pair_parts x.from x.to h.0 in
+    let m = total_more (queues xs) (queues (x ∷ xs)) x.from x.to q.0 q.1 (rw (same_pair_self x.from x.to) (omega arith)) (λ f t ne. rw ne refl) in
     omega arith
 
-pub waits_push : (xs : List Slot) (x : Slot) → (λ f t. queue_of f t (xs ++ x ∷ [])) ≡ added (λ f t. queue_of f t xs) x.from x.to x.letter
-waits_push xs x = fun_ext (λ f. fun_ext (λ t.
-    letters_append f t xs (x ∷ [])
-    ∙ (elim (same_pair x.from x.to f t) as (λ b. queue_of f t xs ++ cond b (x.letter ∷ []) [] ≡ cond b (queue_of f t xs ++ (x.letter ∷ [])) (queue_of f t xs)) [ true ↦ refl | false ↦ append-nil (queue_of f t xs) ])))
-
-module _ (p : List Slot) (x : Slot) (q : List Slot) (from to : ℕ) (none : queue_of from to p ≡ []) (here : same_pair x.from x.to from to ≡ true) where
-  at_here : queue_of from to (p ++ x ∷ q) ≡ x.letter ∷ queue_of from to q
-  at_here = letters_append from to p (x ∷ q) ∙ rw (none, here) refl
-
-  pub first_found : first_of (queue_of from to (p ++ x ∷ q)) ≡ Ok x.letter
-  first_found = rw at_here refl
-
-  pub waits_removed : (λ f t. queue_of f t (p ++ q)) ≡ headless (λ f t. queue_of f t (p ++ x ∷ q)) from to
-  waits_removed = fun_ext (λ f. fun_ext (λ t.
-      ⊎_elim
-      (λ e.
-      let s = same_pair-true from to f t e in
-      let a : queue_of f t (p ++ q) ≡ queue_of f t q = letters_append f t p q ∙ rw (s.0, s.1, none) refl in
-      let b : queue_of f t (p ++ x ∷ q) ≡ x.letter ∷ queue_of f t q = rw (s.0, s.1) at_here in
-      rw (e, a, b) refl)
-      (λ e.
-      let s = same_pair-true x.from x.to from to here in
-      let o : same_pair x.from x.to f t ≡ false = rw (← s.0, ← s.1) e in
-      rw (e, letters_append f t p (x ∷ q), o) (letters_append f t p q))
-      (cases_Bool (same_pair from to f t))))
-
-pub none_more : (f t : ℕ) (xs : List Slot) (i : ℕ) (d : Slot) → i < length xs → queue_of f t (take i xs) ≡ [] → same_pair (get_or xs i d).from (get_or xs i d).to f t ≡ false → queue_of f t (take (i + 1) xs) ≡ []
-none_more f t xs i d lt none other = rw (take_more xs i d lt, letters_append f t (take i xs) (slice_index_or xs i d ∷ []), none, other) refl
-
-pub split : (xs : List Slot) (i : ℕ) (x : Slot) → i < length xs → x ≡ slice_index_or xs i x → xs ≡ take i xs ++ x ∷ drop (suc i) xs
-split xs i x lt e = sym (take-append-drop i xs) ∙ ap (λ r. take i xs ++ r) (drop-cons xs i x lt) ∙ ap (λ y. take i xs ++ y ∷ drop (suc i) xs) (sym e)
-
-pub here_any : (f t : ℕ) (xs : List Slot) (i : ℕ) (e : Slot) → i < length xs → same_pair (get_or xs i e).from (get_or xs i e).to f t ≡ true → (d : Slot) → same_pair (get_or xs i d).from (get_or xs i d).to f t ≡ true
-here_any f t xs i e lt h d = rw (get_or_default xs i d e lt) h
-
--- what is found at i, cut out of the first n
-module _ (xs : List Slot) (n i : ℕ) (d : Slot) (lt : i < n) (le : n ≤ length xs) where
-  cut : take n xs ≡ take i xs ++ slice_index_or xs i d ∷ drop (suc i) (take n xs)
-  cut =
-      let l : length (take n xs) ≡ n = length-take-le n xs le in
-      split (take n xs) i (slice_index_or xs i d) (omega arith) (sym (get_or-take n xs i (slice_index_or xs i d) lt ∙ get_or_default xs i (slice_index_or xs i d) d (omega arith)))
-      ∙ ap (λ p. p ++ slice_index_or xs i d ∷ drop (suc i) (take n xs)) (take-take i n xs (omega arith))
-
-  module _ (from to : ℕ) (none : queue_of from to (take i xs) ≡ []) (here : same_pair (get_or xs i d).from (get_or xs i d).to from to ≡ true) where
-    pub first_in : first_of (queue_of from to (take n xs)) ≡ Ok (get_or xs i d).letter
-    first_in = ap (λ l. first_of (queue_of from to l)) cut ∙ first_found (take i xs) (slice_index_or xs i d) (drop (suc i) (take n xs)) from to none here
-
-    pub waits_without : (λ f t. queue_of f t (remove (take n xs) i)) ≡ headless (λ f t. queue_of f t (take n xs)) from to
-    waits_without =
-        ap (λ p f t. queue_of f t (p ++ drop (suc i) (take n xs))) (take-take i n xs (omega arith))
-        ∙ waits_removed (take i xs) (slice_index_or xs i d) (drop (suc i) (take n xs)) from to none here
-        ∙ ap (λ l. headless (λ f t. queue_of f t l) from to) (sym cut)
-
 pub pairs_removed : (xs : List Slot) (i : ℕ) → AllPairs xs → AllPairs (remove xs i)
-pairs_removed xs i p = pairs_append (take i xs) (drop (suc i) xs) (pairs_take i xs p) (pairs_drop (suc i) xs p)
+pairs_removed [] zero p = refl
+pairs_removed [] (suc i) p = refl
+pairs_removed (x ∷ xs) zero p = (pairs_parts x xs p).1
+pairs_removed (x ∷ xs) (suc i) p = let h = pairs_parts x xs p in and_from _ _ h.0 (pairs_removed xs i h.1)
 
--- what a read past the end would give
-abbrev pub blank : Slot
-blank = record { from = 0; to = 0; letter = record { label = 0; name = 0; place = 0; turns = [] } }
+pub queues_push : (xs : List Slot) (x : Slot) → queues (xs ++ x ∷ []) ≡ added (queues xs) x.from x.to x.letter
+queues_push xs x = fun_ext (λ f. fun_ext (λ t.
+    ap (map (λ y. y.letter)) (filter-append (is_of f t) xs (x ∷ []))
+    ∙ map-append (λ y. y.letter) (filter (is_of f t) xs) (filter (is_of f t) (x ∷ []))
+    ∙ (elim (is_of f t x) as (λ b. queue_of f t xs ++ map (λ y. y.letter) (cond b (x ∷ []) []) ≡ cond b (queue_of f t xs ++ (x.letter ∷ [])) (queue_of f t xs)) [ true ↦ refl | false ↦ append-nil (queue_of f t xs) ])))
+
+-- the first slot of the pair has the pair's oldest letter
+pub find-first : (from to : ℕ) (xs : List Slot) → ok_or (option_map (λ x. x.letter) (find (is_of from to) xs)) Empty ≡ first_of (queue_of from to xs)
+find-first from to [] = refl
+find-first from to (x ∷ xs) = ⊎_elim (λ e. rw e refl) (λ e. rw e (find-first from to xs)) (cases_Bool (is_of from to x))
+
+-- the slot at i is the first of the pair
+module _ (from to : ℕ) where
+  removed_at : (xs : List Slot) (i : ℕ) (d : Slot) → i < length xs → is_of from to (get_or xs i d) ≡ true → ((k : ℕ) → k < i → is_of from to (get_or xs k d) ≡ false)
+      → (f t : ℕ) → queue_of f t (remove xs i) ≡ headless (queues xs) from to f t
+  removed_at [] i d lt here before f t = absurd (omega arith)
+  removed_at (x ∷ xs) zero d lt here before f t =
+      let s = same_pair-true x.from x.to from to here in
+      ⊎_elim
+      (λ (e : same_pair from to f t ≡ true). let o : is_of f t x ≡ true = rw (← s.0, ← s.1) e in rw (e, o) refl)
+      (λ (e : same_pair from to f t ≡ false). let o : is_of f t x ≡ false = rw (← s.0, ← s.1) e in rw (e, o) refl)
+      (cases_Bool (same_pair from to f t))
+  removed_at (x ∷ xs) (suc i) d lt here before f t =
+      let ih = removed_at xs i d (omega arith) here (λ k h. before (suc k) (omega arith)) f t in
+      let no : is_of from to x ≡ false = before 0 (omega arith) in
+      ⊎_elim
+      (λ (e : same_pair from to f t ≡ true).
+      let s = same_pair-true from to f t e in
+      let o : is_of f t x ≡ false = rw (s.0, s.1) no in
+      rw (o, ih) refl)
+      (λ (e : same_pair from to f t ≡ false). let same : queue_of f t (remove xs i) ≡ queue_of f t xs = ih ∙ rw e refl in rw e (elim (is_of f t x) as (λ b. map (λ y. y.letter) (cond b (x ∷ filter (is_of f t) (remove xs i)) (filter (is_of f t) (remove xs i))) ≡ map (λ y. y.letter) (cond b (x ∷ filter (is_of f t) xs) (filter (is_of f t) xs))) [ true ↦ ap (λ l. x.letter ∷ l) same | false ↦ same ]))
+      (cases_Bool (same_pair from to f t))
+
+  pub removed_first : (xs : List Slot) (i : ℕ) (d : Slot) → i < length xs → is_of from to (get_or xs i d) ≡ true → ((k : ℕ) → k < i → is_of from to (get_or xs k d) ≡ false)
+      → queues (remove xs i) ≡ headless (queues xs) from to
+  removed_first xs i d lt here before = fun_ext (λ f. fun_ext (λ t. removed_at xs i d lt here before f t))
 
 -- under what is no pair there is nothing
 pub queue_none : (xs : List Slot) → AllPairs xs → (f t : ℕ) → is_pair f t ≡ false → queue_of f t xs ≡ []
 queue_none [] p f t none = refl
 queue_none (x ∷ xs) p f t none =
+    let h = pairs_parts x xs p in
     ⊎_elim
-    (λ (e : same_pair x.from x.to f t ≡ true).
+    (λ (e : is_of f t x ≡ true).
     let q = same_pair-true x.from x.to f t e in
-    absurd (both_ways (is_pair f t) none (rw (q.0, q.1) p.0)))
-    (λ (e : same_pair x.from x.to f t ≡ false). rw e (queue_none xs p.1 f t none))
-    (cases_Bool (same_pair x.from x.to f t))
+    absurd (both_ways (is_pair f t) none (rw (q.0, q.1) h.0)))
+    (λ (e : is_of f t x ≡ false). rw e (queue_none xs h.1 f t none))
+    (cases_Bool (is_of f t x))

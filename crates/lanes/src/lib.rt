@@ -2,18 +2,19 @@
 // pair.
 #![tactic(auto)]
 
-ghost use Rattle.std.specs.Prelude.{◌≡◌, ℕ, ◌-◌, ◌<◌, ◌≤◌, [], length, take, ◌==◌};
-ghost use Rattle.std.proofs.Common.{length-take, arith, rules};
-ghost use Rattle.std.specs.List.{remove};
-ghost use Rattle.channel.specs.Waits.{same_pair};
-ghost use Rattle.lanes.specs.Lanes.{waits_of, room_of, Sound, Found};
+ghost use Rattle.std.specs.Prelude.{◌≡◌, ℕ, [], position};
+ghost use Rattle.lanes.specs.Lanes.{waits_of, room_of, Sound, place_in};
+ghost use Rattle.lanes.specs.Slots.{is_of};
 ghost use Rattle.lanes.specs.Rows.{total-rows, queue_none};
+ghost use Rattle.std.proofs.Common.{arith, rules};
 
+mod slot;
 mod table;
 
+use arrayvec::ArrayVec;
 use channel::{Channel, Letter, Refusal, is_pair};
+use slot::Slot;
 pub use table::Lanes;
-use table::Slot;
 
 impl Lanes {
     // Lanes in which nothing waits.
@@ -22,45 +23,26 @@ impl Lanes {
         ensures empty { (f t : ℕ) → waits_of result f t ≡ [] }
         ensures limit { room_of result ≡ 64 }
     {
-        Lanes::unused()
-    }
-
-    // Whether each slot is in use.
-    fn is_full(&self) -> bool
-        ensures { result ≡ (self.now.len == 64) }
-    {
-        self.len == self.slots.len()
-    }
-}
-
-// Whether a slot holds a letter of the pair.
-fn is_of(slot: Slot, from: u8, to: u8) -> bool
-    ensures { result ≡ same_pair slot.from slot.to from to }
-{
-    from == slot.from && to == slot.to
-}
-
-// Where the first letter of the pair stands, among the first n slots.
-fn find(slots: &[Slot], n: usize, from: u8, to: u8) -> Option<usize>
-    requires { n ≤ length slots.now }
-    ensures { Found slots.now n from to result }
-{
-    for i in 0..n {
-        if is_of(slots[i], from, to) {
-            return Some(i);
+        Lanes {
+            slots: ArrayVec::new(),
         }
     }
-    None
-}
 
-// Removes what stands at i, and moves the later ones of the first n slots down.
-fn close(slots: &mut [Slot], n: usize, i: usize)
-    requires { (n ≤ length slots.old) × (i < n) }
-    ensures { take (n - 1) slots.new ≡ remove (take n slots.old) i }
-{
-    for j in i..n - 1 {
-        let slot = slots[j + 1];
-        slots[j] = slot;
+    // Where the first slot of the pair stands.
+    fn first(&self, from: u8, to: u8) -> Option<usize>
+        ensures { result ≡ position (is_of from to) self.now.slots.items }
+    {
+        self.slots.iter().position(|slot| slot.is_of(from, to))
+    }
+
+    // The same, or why there is none.
+    fn place(&self, from: u8, to: u8) -> Result<usize, Refusal>
+        ensures { result ≡ place_in self.now from to }
+    {
+        if !is_pair(from, to) {
+            return Err(Refusal::NotAPair);
+        }
+        self.first(from, to).ok_or(Refusal::Empty)
     }
 }
 
@@ -71,59 +53,38 @@ impl Channel for Lanes {
 
     ghost sound = { Sound };
 
-    ghost within = { λ c p. omega (arith, total-rows (take c.len c.slots) p, length-take c.len c.slots) };
+    ghost within = { λ c _. omega (arith, total-rows c.slots.items c.pairs, c.few) };
 
     ghost least = { first_of (Prim.search rules, Prim.grind (arith, Self.row.coded.inj)) };
 
     ghost most = { first_of (Prim.search rules, Prim.grind (arith, Self.row.coded.inj)) };
 
-    ghost nothing = { λ c p f t none. queue_none (take c.len c.slots) p f t none };
+    ghost nothing = { λ c _ f t none. queue_none c.slots.items c.pairs f t none };
 
     fn limit(&self) -> u16 {
-        self.slots.len() as u16
+        self.slots.capacity() as u16
     }
 
     fn count(&self) -> u16 {
-        self.len as u16
+        self.slots.len() as u16
     }
 
     fn head(&self, from: u8, to: u8) -> Result<Letter, Refusal> {
-        if !is_pair(from, to) {
-            return Err(Refusal::NotAPair);
-        }
-        match find(&self.slots, self.len, from, to) {
-            Some(i) => Ok(self.slots[i].letter),
-            None => Err(Refusal::Empty),
-        }
+        let at = self.place(from, to)?;
+        Ok(self.slots[at].letter)
     }
 
     fn put(&mut self, from: u8, to: u8, letter: Letter) -> Result<(), Refusal> {
         if !is_pair(from, to) {
             return Err(Refusal::NotAPair);
         }
-        if self.is_full() {
-            return Err(Refusal::Full);
-        }
-        let n = self.len;
-        self.slots[n] = Slot { from, to, letter };
-        self.len = n + 1;
-        Ok(())
+        let slot = Slot { from, to, letter };
+        self.slots.try_push(slot).map_err(|_| Refusal::Full)
     }
 
     fn take(&mut self, from: u8, to: u8) -> Result<Letter, Refusal> {
-        if !is_pair(from, to) {
-            return Err(Refusal::NotAPair);
-        }
-        let n = self.len;
-        match find(&self.slots, n, from, to) {
-            Some(i) => {
-                let letter = self.slots[i].letter;
-                close(&mut self.slots, n, i);
-                self.len = n - 1;
-                Ok(letter)
-            }
-            None => Err(Refusal::Empty),
-        }
+        let i = self.place(from, to)?;
+        Ok(self.slots.remove(i).letter)
     }
 }
 
@@ -135,7 +96,7 @@ mod tests {
     fn letter(name: u8) -> Letter {
         Letter {
             name,
-            ..Letter::BLANK
+            ..Letter::default()
         }
     }
 

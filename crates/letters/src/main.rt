@@ -19,10 +19,11 @@ const LATE: u32 = 4294967294;
 fn letter(name: u8) -> Letter {
     Letter {
         name,
-        ..Letter::BLANK
+        ..Letter::default()
     }
 }
 
+// Both arms print, so that a chain of calls is no plainer than the match, here and in `receive`.
 fn send<C: Channel>(
     rt: &HostRuntime,
     channel: &mut C,
@@ -76,6 +77,7 @@ fn show_channel<C: Channel>(rt: &HostRuntime, channel: &mut C) -> io::Result<()>
 
 // The letters in the order of the bag, each with its stamp.
 fn show_bag<B: Bag>(rt: &HostRuntime, bag: &B) -> io::Result<()> {
+    // by number, since the number is printed
     for i in 0..bag.count() {
         if let Ok(item) = bag.show(i) {
             println!(rt;
@@ -160,13 +162,7 @@ mod tests {
         for name in 0..5 {
             let _ = channel.put(3, 4, letter(name));
         }
-        for name in 0..5 {
-            match channel.take(3, 4) {
-                Ok(taken) if taken.name == name => {}
-                _ => return false,
-            }
-        }
-        true
+        (0..5).all(|name| channel.take(3, 4) == Ok(letter(name)))
     }
 
     #[test]

@@ -1,5 +1,5 @@
 pub mod Tallies
 pub mod Seeks
-pub mod Windows
-pub mod Arrays
+pub mod Queues
+pub mod Steps
 pub mod Start

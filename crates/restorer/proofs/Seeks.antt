@@ -1,23 +1,29 @@
 -- Laws of the search for a letter.
-use Rattle.std.proofs.Common.{◌≡◌, ℕ, zero, suc, true, false, List, [], ◌∷◌, take, Some, None, Ok, Err, Option, Result, sym, refl, ap, ◌∙◌, ⊎_elim, arith}
+use Rattle.std.proofs.Common.{◌≡◌, ℕ, zero, suc, ◌+◌, ◌-◌, Bool, true, false, cond, List, [], ◌∷◌, length, find, option_map, Some, None, Ok, Err, Option, Result, sym, refl, ap, ◌∙◌, ⊎_elim, arith}
+use Rattle.std.specs.List.{range_with_len}
 use Rattle.channel.specs.declared.Refusal.{Refusal}
 use Rattle.std.proofs.lemmas.Bool.{cases_Bool}
 use Rattle.bag.specs.declared.Stamped.{Stamped}
 use Rattle.bag.specs.Held.{shown_at}
-use Rattle.restorer.specs.Stamps.{carries, later, sought_in, tally}
+use Rattle.restorer.specs.Stamps.{carries, carries_at, later, sought_in, tally}
 
 module _ (f t s : ℕ) where
-  -- the search finds nothing just where the stamp stands nowhere
-  pub none_sought : (xs : List Stamped) → tally f t s xs ≡ 0 → None ≡ sought_in f t s xs
-  none_sought [] z = refl
-  none_sought (x ∷ xs) z =
+  find-later : (test : ℕ → Bool) (a n : ℕ) → find test (range_with_len (suc a) n) ≡ later (find (λ i. test (suc i)) (range_with_len a n))
+  find-later test a zero = refl
+  find-later test a (suc n) =
       ⊎_elim
-      (λ (e : carries f t s x ≡ true). absurd (let z' = rw e at z in omega arith))
-      (λ (e : carries f t s x ≡ false).
-      let z' = rw e at z in
-      let ih = none_sought xs (omega arith) in
-      rw e (ap later ih))
-      (cases_Bool (carries f t s x))
+      (λ (e : test (suc a) ≡ true). rw e refl)
+      (λ (e : test (suc a) ≡ false). let next : suc a + 1 ≡ suc (a + 1) = omega arith in rw (e, next) (find-later test (a + 1) n))
+      (cases_Bool (test (suc a)))
+
+  find_in : (xs : List Stamped) → find (carries_at f t s xs) (range_with_len 0 (length xs)) ≡ sought_in f t s xs
+  find_in [] = refl
+  find_in (x ∷ xs) = ap (cond (carries f t s x) (Some 0)) (find-later (carries_at f t s (x ∷ xs)) 0 (length xs) ∙ ap later (find_in xs))
+
+  -- what the places are gone through for
+  pub found_in : (xs : List Stamped) (n : ℕ) (o : Option ℕ) → n ≡ length xs → option_map (λ i. i) o ≡ find (carries_at f t s xs) (range_with_len 0 (n - 0)) → o ≡ sought_in f t s xs
+  found_in xs n None e h = h ∙ ap (λ k. find (carries_at f t s xs) (range_with_len 0 k)) (let d : n - 0 ≡ length xs = omega arith in d) ∙ find_in xs
+  found_in xs n (Some i) e h = h ∙ ap (λ k. find (carries_at f t s xs) (range_with_len 0 k)) (let d : n - 0 ≡ length xs = omega arith in d) ∙ find_in xs
 
   later_none : (o : Option ℕ) → later o ≡ None → o ≡ None
   later_none None e = refl
@@ -33,19 +39,6 @@ module _ (f t s : ℕ) where
       let ih = sought_none xs (later_none (sought_in f t s xs) e') in
       rw h (omega arith))
       (cases_Bool (carries f t s x))
-
-  -- the place that the search finds is the first that has the stamp
-  pub here_sought : (xs : List Stamped) (i : ℕ) (x : Stamped) → tally f t s (take i xs) ≡ 0 → shown_at xs i ≡ Ok x → carries f t s x ≡ true → Some i ≡ sought_in f t s xs
-  here_sought [] i x z e h = absurd (let q : ◌≡◌ {A = ℕ} 0 1 = cc in omega arith)
-  here_sought (y ∷ ys) zero x z e h = let q : y ≡ x = cc in let h' : carries f t s y ≡ true = rw q h in rw h' refl
-  here_sought (y ∷ ys) (suc i) x z e h =
-      ⊎_elim
-      (λ (c : carries f t s y ≡ true). absurd (let z' = rw c at z in omega arith))
-      (λ (c : carries f t s y ≡ false).
-      let z' = rw c at z in
-      let ih = here_sought ys i x (omega arith) e h in
-      rw c (ap later ih))
-      (cases_Bool (carries f t s y))
 
   later_some : (o : Option ℕ) (i : ℕ) → later o ≡ Some i → (j : ℕ) × (i ≡ suc j) × (o ≡ Some j)
   later_some None i e = absurd (let z : ◌≡◌ {A = ℕ} 0 1 = cc in omega arith)

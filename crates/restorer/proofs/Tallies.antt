@@ -1,5 +1,5 @@
 -- How often a stamp stands in a list, and that the order of the list does not matter.
-use Rattle.std.proofs.Common.{◌≡◌, ℕ, zero, suc, ◌+◌, ◌<◌, true, false, cond, List, [], ◌∷◌, ◌++◌, length, get_or, take, Ok, sum_by, sym, refl, ap, ◌∙◌, ⊎_elim, add-one, arith}
+use Rattle.std.proofs.Common.{◌≡◌, ℕ, zero, suc, ◌+◌, ◌<◌, true, cond, List, [], ◌∷◌, ◌++◌, length, get_or, sum_by, sym, refl, ap, ◌∙◌, ⊎_elim, arith}
 use Rattle.std.specs.List.{ContainsAt}
 use Rattle.std.specs.List.Sorted.{IsPermutation}
 use Rattle.std.proofs.lemmas.List.Sorted.{sum_by-IsPermutation, Contains-permutation}
@@ -7,8 +7,6 @@ use Rattle.std.proofs.lemmas.List.Elements.{Contains-from_at, at_from_Contains}
 use Rattle.std.proofs.lemmas.List.Sums.{sum_by-cons}
 use Rattle.std.proofs.lemmas.Bool.{cases_Bool}
 use Rattle.bag.specs.declared.Stamped.{Stamped}
-use Rattle.bag.specs.Held.{shown_at}
-use Rattle.bag.proofs.Shown.{shown_next}
 use Rattle.restorer.specs.Stamps.{carries, tally, letter_at}
 
 module _ (f t s : ℕ) where
@@ -58,7 +56,3 @@ module _ (f t s : ℕ) where
       let a = at_from_Contains ys m.0 (Contains-permutation xs ys m.0 h (Contains-from_at xs m.0 m.1)) in
       let k = tally_shuffled xs ys h ∙ n in
       unique ys a.0 m.0 a.1 a.2 m.2 k ∙ sym (unique xs m.1.0 m.0 m.1.1 m.1.2 m.2 n)
-
--- a search that goes on past x
-pub tally_next : (f t s : ℕ) (xs : List Stamped) (i : ℕ) (x : Stamped) → shown_at xs i ≡ Ok x → carries f t s x ≡ false → tally f t s (take i xs) ≡ 0 → tally f t s (take (i + 1) xs) ≡ 0
-tally_next f t s xs i x e other z = rw (add-one i, shown_next xs i x e, tally_append f t s (take i xs) (x ∷ []), z, other) refl

@@ -1,33 +1,31 @@
 -- What a restorer means, as a channel.
-use Rattle.std.specs.Prelude.{◌≡◌, ℕ, ◌+◌, ◌-◌, ◌*◌, ◌%◌, ◌<◌, true, List, [], length, replicate, slice_index}
-use Rattle.channel.specs.Waits.{Waits, is_pair}
+use Rattle.std.specs.Prelude.{◌≡◌, ℕ, ◌<◌, true, [], length, Result, slice_index_or}
+use Rattle.channel.specs.declared.Refusal.{Refusal}
+use Rattle.channel.specs.Waits.{Waits, is_pair, place_of}
 use Rattle.bag.specs.declared.Bag.{Ghosts}
 use Rattle.bag.specs.Calls.{Emptied}
 use Rattle.restorer.specs.declared.Restorer.{Restorer}
-use Rattle.restorer.specs.Stamps.{Cells, waits_from, Kept}
-
--- a pair's number in a table of 64
-abbrev pub cell : List ℕ → Cells
-cell xs f t = slice_index xs (f * 8 + t)
-
--- how many stamps lie from the one that is due to the next to be given
-abbrev pub between : List ℕ → List ℕ → Cells
-between due next f t = (cell next f t + (4294967296 - cell due f t)) % 4294967296
+use Rattle.restorer.specs.Stamps.{sought_in, waits_from, Kept}
+use Rattle.restorer.specs.Windows.{window_of, due_in, between, all_from}
 
 -- b is what the bag means
 module _ {B : Type 0} (b : Ghosts B) where
   abbrev pub waits_in : Restorer B → Waits
-  waits_in r = waits_from (cell r.due) (between r.due r.next) (b.held r.bag)
+  waits_in r = waits_from (due_in r.windows) (between r.windows) (b.held r.bag)
 
   abbrev pub room_in : Restorer B → ℕ
   room_in r = b.space r.bag
 
+  -- where the letter of a pair that is due stands in the bag, or why there is none
+  abbrev pub place_in : Restorer B → ℕ → ℕ → Result ℕ Refusal
+  place_in r from to = place_of from to (sought_in from to (due_in r.windows from to) (b.held r.bag))
+
   pub record Sound (r : Restorer B) : Type 0 where
     pub bag : b.sound r.bag
-    pub dues : length r.due ≡ 64
-    pub nexts : length r.next ≡ 64
-    pub fits : (f t : ℕ) → is_pair f t ≡ true → cell r.next f t < 4294967296
-    pub kept : Kept (cell r.due) (between r.due r.next) (b.held r.bag)
+    pub rows : length r.windows.rows ≡ 8
+    pub columns : (f : ℕ) → f < 8 → length (slice_index_or r.windows.rows f []) ≡ 8
+    pub fits : (f t : ℕ) → is_pair f t ≡ true → (window_of r.windows f t).next < 4294967296
+    pub kept : Kept (due_in r.windows) (between r.windows) (b.held r.bag)
 
   -- a restorer made over a bag, with a first stamp for each pair
   pub record Made (bag : B) (stamp : ℕ) (r : Restorer B) : Type 0 where
@@ -35,5 +33,4 @@ module _ {B : Type 0} (b : Ghosts B) where
     pub empty : (f t : ℕ) → waits_in r f t ≡ []
     pub limit : room_in r ≡ b.space bag
     pub emptied : Emptied b.sound b.held b.space bag r.bag
-    pub due : r.due ≡ replicate 64 stamp
-    pub next : r.next ≡ replicate 64 stamp
+    pub windows : r.windows ≡ all_from stamp

@@ -1,5 +1,5 @@
 -- A bag's letters by pair and stamp, and the queues that they make in the order of their stamps.
-use Rattle.std.specs.Prelude.{◌≡◌, ℕ, suc, ◌+◌, ◌%◌, ◌<◌, Bool, true, cond, ◌&&◌, List, [], ◌∷◌, map, length, Some, None, Option, ◌==◌, nat_lt}
+use Rattle.std.specs.Prelude.{◌≡◌, ℕ, suc, ◌+◌, ◌%◌, ◌<◌, Bool, true, cond, ◌&&◌, List, [], ◌∷◌, map, length, Some, None, Option, ◌==◌, nat_lt, false, slice_get, option_map, unwrap_or}
 use Rattle.std.specs.List.{range_with_len}
 use Rattle.channel.specs.declared.Letter.{Letter}
 use Rattle.channel.specs.Waits.{Waits, is_pair, same_pair, total}
@@ -8,6 +8,10 @@ use Rattle.bag.specs.declared.Stamped.{Stamped}
 -- whether x is the letter of the pair with the stamp s
 abbrev pub carries : ℕ → ℕ → ℕ → Stamped → Bool
 carries f t s x = same_pair x.from x.to f t && s == x.stamp
+
+-- whether the i-th is
+abbrev pub carries_at : ℕ → ℕ → ℕ → List Stamped → ℕ → Bool
+carries_at f t s xs i = unwrap_or (option_map (carries f t s) (slice_get xs i)) false
 
 abbrev pub later : Option ℕ → Option ℕ
 later None = None

@@ -1,37 +1,29 @@
--- What a tray shows of each answer, over the table and the number of its places in use.
-use Rattle.std.proofs.Common.{◌≡◌, ℕ, ◌<◌, ◌≤◌, List, [], ◌∷◌, ◌++◌, length, get_or, take, Ok, sym, ◌∙◌, subst, arith}
+-- A tray that leaves the list that its clauses name keeps the promises of a bag.
+use Rattle.std.proofs.Common.{◌≡◌, ℕ, true, false, eqb, List, ◌∷◌, length, Result, MatchResult, Some, None, Option, IfSome, IfNone, sym, refl, ap, ⊎_elim}
 use Rattle.std.specs.List.Sorted.{IsPermutation}
-use Rattle.std.proofs.lemmas.List.{get_or-take, get_or_default, length-take-le}
-use Rattle.std.proofs.lemmas.List.Sorted.{IsPermutation-sym, IsPermutation-to_front}
-use Rattle.std.proofs.lemmas.Bool.{cond-true, cond-false, lt-ltb, le-ltb, ne_eqb}
+use Rattle.std.proofs.lemmas.Bool.{cases_Bool}
+use Rattle.std.proofs.lemmas.List.Sorted.{IsPermutation-sym, IsPermutation-to_front, IsPermutation-swap_remove}
+use Rattle.channel.specs.declared.Refusal.{Refusal}
 use Rattle.bag.specs.declared.Stamped.{Stamped}
-use Rattle.bag.specs.Held.{shown_at}
-use Rattle.bag.proofs.Shown.{shown_some}
-use Rattle.tray.specs.Tray.{after_put, after_take, gap_filled}
-use Rattle.tray.proofs.Gaps.{gap_shuffled}
+use Rattle.bag.specs.Held.{put_of}
+use Rattle.channel.specs.declared.Refusal.TheVariants.{Empty}
+use Rattle.std.specs.List.{slice_get, swap_remove}
+use Rattle.std.specs.Option.{ok_or}
+use Rattle.std.proofs.lemmas.Option.{slice_get_within, get_or_from_slice_get}
+use Rattle.arrayvec.specs.ArrayVec.{ArrayVec}
+use Rattle.tray.specs.Tray.{after_put}
 
-pub shown_in : (xs : List Stamped) (n i : ℕ) (d : Stamped) → n ≤ length xs → i < n → Ok (get_or xs i d) ≡ shown_at (take n xs) i
-shown_in xs n i d le lt =
-    let long = length-take-le n xs le in
-    shown_some (take n xs) i (get_or xs i d) (omega arith)
-    (sym (get_or-take n xs i (get_or xs i d) lt ∙ get_or_default xs i (get_or xs i d) d (omega arith)))
+pub put_shuffled : (xs ys : List Stamped) (x : Stamped) (r : Result (Unit {0}) Refusal) → r ≡ put_of xs 32 → ys ≡ after_put xs x
+    → MatchResult r (λ _. IsPermutation (x ∷ xs) ys) (λ _. ys ≡ xs)
+put_shuffled xs ys x r answer left =
+    ⊎_elim
+    (λ (e : eqb (length xs) 32 ≡ true). rw (answer, left, e) refl)
+    (λ (e : eqb (length xs) 32 ≡ false). rw (answer, left, e) (IsPermutation-sym _ _ (IsPermutation-to_front xs x)))
+    (cases_Bool (eqb (length xs) 32))
 
-pub put_last : (xs : List Stamped) (x : Stamped) → (length xs ≡ 32 → ⊥) → xs ++ x ∷ [] ≡ after_put xs x
-put_last xs x ne = sym (cond-false _ xs (xs ++ x ∷ []) (ne_eqb (length xs) 32 ne))
-
-pub put_shuffled : (xs ys : List Stamped) (x : Stamped) → ys ≡ xs ++ x ∷ [] → IsPermutation (x ∷ xs) ys
-put_shuffled xs ys x e = subst (λ (l : List Stamped). IsPermutation (x ∷ xs) l) (sym e) (IsPermutation-sym _ _ (IsPermutation-to_front xs x))
-
-pub take-filled : (xs : List Stamped) (i : ℕ) → i < length xs → gap_filled xs i ≡ after_take xs i
-take-filled xs i lt = sym (cond-true _ (gap_filled xs i) xs (lt-ltb i (length xs) lt))
-
-pub take_past : (xs : List Stamped) (i : ℕ) → length xs ≤ i → xs ≡ after_take xs i
-take_past xs i le = sym (cond-false _ (gap_filled xs i) xs (le-ltb i (length xs) le))
-
--- the letter at i of the first n, and what is left without it
-pub take_shuffled : (xs ys : List Stamped) (n i : ℕ) (d : Stamped) → n ≤ length xs → i < n → ys ≡ gap_filled (take n xs) i → IsPermutation (take n xs) (get_or xs i d ∷ ys)
-take_shuffled xs ys n i d le lt e =
-    let long = length-take-le n xs le in
-    let s = gap_shuffled (take n xs) i d (omega arith) in
-    let s' : IsPermutation (take n xs) (get_or xs i d ∷ gap_filled (take n xs) i) = subst (λ (x : Stamped). IsPermutation (take n xs) (x ∷ gap_filled (take n xs) i)) (get_or-take n xs i d lt) s in
-    subst (λ (l : List Stamped). IsPermutation (take n xs) (get_or xs i d ∷ l)) (sym e) s'
+pub take_shuffled : (old new : ArrayVec Stamped) (i : ℕ) (o : Option Stamped) → o ≡ slice_get old.items i → IfSome o (λ x. new.items ≡ swap_remove old.items i x) → IfNone o (new ≡ old)
+    → MatchResult (ok_or o Empty) (λ x. IsPermutation old.items (x ∷ new.items)) (λ _. new.items ≡ old.items)
+take_shuffled old new i None e some none = ap (λ v. v.items) none
+take_shuffled old new i (Some x) e some none =
+    rw some
+    (IsPermutation-swap_remove old.items i x (slice_get_within old.items i x (sym e)) (sym (get_or_from_slice_get old.items i x x (sym e))))

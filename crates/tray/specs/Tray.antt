@@ -5,7 +5,7 @@ use Rattle.bag.specs.declared.Stamped.{Stamped}
 use Rattle.tray.specs.declared.table.Tray.{Tray}
 
 abbrev pub letters_in : Tray → List Stamped
-letters_in t = take t.len t.items
+letters_in t = t.items.items
 
 abbrev pub space_of : Tray → ℕ
 space_of t = 32

@@ -2,13 +2,14 @@
 // its last one.
 #![tactic(auto)]
 
-ghost use Rattle.std.specs.Prelude.{◌≡◌, [], ◌==◌};
+ghost use Rattle.std.specs.Prelude.{◌≡◌, []};
 ghost use Rattle.bag.specs.Calls.{Put, Take};
 ghost use Rattle.tray.specs.Tray.{letters_in, space_of, Sound, after_put, after_take};
 ghost use Rattle.std.proofs.Common.{rules, arith};
 
 mod table;
 
+use arrayvec::ArrayVec;
 use bag::{Bag, Stamped};
 use channel::Refusal;
 pub use table::Tray;
@@ -20,14 +21,9 @@ impl Tray {
         ensures empty { letters_in result ≡ [] }
         ensures limit { space_of result ≡ 32 }
     {
-        Tray::unused()
-    }
-
-    // Whether each place is in use.
-    fn is_full(&self) -> bool
-        ensures { result ≡ (self.now.len == 32) }
-    {
-        self.len == self.items.len()
+        Tray {
+            items: ArrayVec::new(),
+        }
     }
 }
 
@@ -45,19 +41,15 @@ impl Bag for Tray {
     ghost most = { first_of (Prim.search rules, Prim.grind (arith, Self.row.coded.inj)) };
 
     fn limit(&self) -> u16 {
-        self.items.len() as u16
+        self.items.capacity() as u16
     }
 
     fn count(&self) -> u16 {
-        self.len as u16
+        self.items.len() as u16
     }
 
     fn show(&self, i: u16) -> Result<Stamped, Refusal> {
-        let at = i as usize;
-        if at >= self.len {
-            return Err(Refusal::Empty);
-        }
-        Ok(self.items[at])
+        self.items.get(i as usize).copied().ok_or(Refusal::Empty)
     }
 
     // The new letter comes last.
@@ -65,13 +57,7 @@ impl Bag for Tray {
         ensures put { Sound self.old → Put Sound letters_in space_of self.old self.new item result }
         ensures exact { letters_in self.new ≡ after_put (letters_in self.old) item }
     {
-        if self.is_full() {
-            return Err(Refusal::Full);
-        }
-        let n = self.len;
-        self.items[n] = item;
-        self.len = n + 1;
-        Ok(())
+        self.items.try_push(item).map_err(|_| Refusal::Full)
     }
 
     // The last letter fills the gap.
@@ -79,16 +65,7 @@ impl Bag for Tray {
         ensures take { Sound self.old → Take Sound letters_in space_of self.old self.new i result }
         ensures exact { letters_in self.new ≡ after_take (letters_in self.old) i }
     {
-        let at = i as usize;
-        let n = self.len;
-        if at >= n {
-            return Err(Refusal::Empty);
-        }
-        let item = self.items[at];
-        let last = self.items[n - 1];
-        self.items[at] = last;
-        self.len = n - 1;
-        Ok(item)
+        self.items.swap_pop(i as usize).ok_or(Refusal::Empty)
     }
 }
 
@@ -103,7 +80,7 @@ mod tests {
             from: 0,
             to: 1,
             stamp,
-            letter: Letter::BLANK,
+            letter: Letter::default(),
         }
     }
 

@@ -20,11 +20,9 @@ pub struct Twin<A: Bag, B: Bag> {
 
 impl<A: Bag, B: Bag> Twin<A, B> {
     // A twin of two bags, both emptied.
-    pub fn new(first: A, second: B) -> Twin<A, B>
+    pub fn new(mut first: A, mut second: B) -> Twin<A, B>
         ensures { A.Bag.sound first → B.Bag.sound second → Made A.Bag B.Bag first second result }
     {
-        let mut first = first;
-        let mut second = second;
         empty_bag(&mut first);
         empty_bag(&mut second);
         Twin { first, second }
