@@ -1,28 +1,22 @@
 -- The same reading of instances and charts, where a repetition is a definition that stays shut.
-use Rattle.std.specs.Prelude.{ℕ, Bool, true, false, cond, List, [], length, Some, None, Option, nat_lt}
+use Rattle.std.specs.Prelude.{◌≡◌, ℕ, Bool, true, false, cond, List, [], length, nat_lt}
+use Rattle.std.specs.declared.ops.ControlFlow.{ControlFlow}
+use Rattle.std.specs.declared.ops.ControlFlow.TheVariants.{Continue, Break}
 use Rattle.msc.specs.Doc.{chart_names}
-use Rattle.msc.specs.Rows.{name_of}
-use Rattle.msc.specs.declared.name.Name.{Name}
 use Rattle.msc.specs.declared.symbol.Symbol.TheVariants.{Semi}
 use Rattle.msc.specs.declared.words.Keyword.TheVariants as keyword
 use Rattle.lexis.specs.Lexing.{next_of, is_key, word_at, sign_at}
 use Rattle.lexis.specs.Steps.{Step, got, bad, and_then, repeat}
 use Rattle.lexis.specs.declared.refusal.Refusal.TheVariants.{Unexpected, Twice}
-use Rattle.forms.specs.Drafts.{Draft, no_draft, opened, closed, charted}
-use Rattle.forms.specs.Reading.{new_name_at, old_name_at, inst_at, inst_turn}
+use Rattle.forms.specs.Drafts.{Draft, opened, closed, charted}
+use Rattle.forms.specs.Reading.{new_name_at, old_name_at, inst_turn}
 use Rattle.parts.specs.Turns.{events_in}
+use Rattle.parts.specs.declared.reading.Reading.{Reading}
 
 module _ (ws : List (List ℕ)) where
   -- instance lines behind the first
   unfoldable pub instances_in : Draft → ℕ → List ℕ → Step Draft
   instances_in d p s = repeat (inst_turn ws) 8 d p s
-
-  -- one to eight instance lines, and the word msc
-  abbrev pub lines_in : ℕ → List ℕ → Step Draft
-  lines_in p s =
-      and_then (word_at ws keyword.Inst p s) λ _ p s.
-      and_then (inst_at ws no_draft 0 p s) λ d p s.
-      instances_in d p s
 
   -- a part behind its instance's name
   abbrev pub part_in : ℕ → Draft → ℕ → List ℕ → Step Draft
@@ -61,11 +55,12 @@ module _ (ws : List (List ℕ)) where
       cond (is_key keyword.Expr t.0) (got ((d.0, w), true) p' s')
       (cond (nat_lt (length d.0.charts) 64) (and_then (chart_in d.0 w p s) λ e p s. got ((e, d.1), false) p s) (bad (Unexpected t.1)))
 
-  -- all charts, and the graph's name
-  unfoldable pub charts_in : Draft → ℕ → List ℕ → Step (Draft × List ℕ)
-  charts_in d p s = repeat chart_turn_in 65 (d, []) p s
-
 -- what a turn says of a draft: the graph's name, which is the last, or that a chart was read
-abbrev pub turned : Draft → Option Name → (Draft × List ℕ) × Bool
-turned d None = ((d, []), false)
-turned d (Some n) = ((d, name_of n), true)
+abbrev pub named : Draft → ControlFlow (List ℕ) (Unit {0}) → (Draft × List ℕ) × Bool
+named d (Break n) = ((d, n), true)
+named d (Continue x) = ((d, []), false)
+
+-- words and charts are as they were
+pub record Stays (old new : Reading) : Type 0 where
+  pub words : new.reader.words ≡ old.reader.words
+  pub charts : new.draft.charts ≡ old.draft.charts

@@ -1,76 +1,74 @@
 // Reads the blocks of a chart: the part of each instance that has one.
 ghost use Rattle.std.specs.Prelude.{◌≡◌, ◌<◌, ◌≤◌, length};
-ghost use Rattle.lexis.specs.Readers.{words_of, step_of, from};
-ghost use Rattle.draft.specs.Drafting.{draft_of};
-ghost use Rattle.charts.specs.Turns.{part_in, block_in, block_turn_in, blocks_in};
+ghost use Rattle.lexis.specs.Readers.{step_of};
+ghost use Rattle.parts.specs.Readings.{turned, here};
+ghost use Rattle.charts.specs.Turns.{part_in, block_in, block_turn_in, blocks_in, Stays};
 
-use draft::draft::Draft;
-use lexis::reader::Reader;
 use lexis::refusal::Refusal;
+use lexis::token::Token;
 use msc::symbol::Symbol;
-use msc::words::{Keyword, Words};
-use parts::events::events;
+use msc::words::Keyword;
 use parts::names::old_name;
+use parts::reading::Reading;
+use std::ops::ControlFlow;
 
-// ; events endinstance ; of instance `own`, which is behind those that had a block.
-fn part(
-    reader: &mut Reader<'_>,
-    words: &Words,
-    draft: &mut Draft,
-    own: usize,
-) -> Result<(), Refusal>
-    requires behind { length (draft_of draft.old).parts ≤ own }
+// At most eight blocks, and what ends them.
+const TURNS: usize = 9;
+
+// ; events endinstance ; of instance `own`, which is behind those that had a block: its caller has tried that.
+fn part(reading: &mut Reading<'_>, own: usize) -> Result<(), Refusal>
+    requires behind { length reading.old.draft.parts ≤ own }
     requires declared { own < 8 }
-    ensures says { step_of (λ _. draft_of draft.new) result reader.new ≡ from (part_in (words_of words.now) own (draft_of draft.old)) reader.old }
-    ensures charts { (draft_of draft.new).charts ≡ (draft_of draft.old).charts }
+    ensures says { step_of (λ _. reading.new.draft) result reading.new.reader ≡ here (λ ws. part_in ws own) reading.old }
+    ensures stays { Stays reading.old reading.new }
 {
-    reader.sign(words, Symbol::Semi)?;
-    draft.open_part(own);
-    events(reader, words, draft, own)?;
-    reader.sign(words, Symbol::Semi)?;
-    draft.close_part();
+    reading.reader.sign(Symbol::Semi)?;
+    reading.draft.open_part(own);
+    reading.events(own)?;
+    reading.reader.sign(Symbol::Semi)?;
+    reading.draft.close_part();
     Ok(())
 }
 
 // name ; events endinstance ; of an instance behind the last one that had a block.
-fn block(reader: &mut Reader<'_>, words: &Words, draft: &mut Draft) -> Result<(), Refusal>
-    ensures says { step_of (λ _. draft_of draft.new) result reader.new ≡ from (block_in (words_of words.now) (draft_of draft.old)) reader.old }
-    ensures charts { (draft_of draft.new).charts ≡ (draft_of draft.old).charts }
+fn block(reading: &mut Reading<'_>) -> Result<(), Refusal>
+    ensures says { step_of (λ _. reading.new.draft) result reading.new.reader ≡ here block_in reading.old }
+    ensures stays { Stays reading.old reading.new }
 {
-    let own = old_name(reader, words, &draft.instances)?;
-    if own < draft.parts() {
-        return Err(Refusal::Twice(reader.place()));
+    let own = old_name(&mut reading.reader, reading.draft.instances())?;
+    if own < reading.draft.parts() {
+        return Err(Refusal::Twice(reading.reader.place()));
     }
-    part(reader, words, draft, own)?;
-    Ok(())
+    part(reading, own)
 }
 
 // A block, or the word endmsc, which is the last.
-fn block_turn(reader: &mut Reader<'_>, words: &Words, draft: &mut Draft) -> Result<bool, Refusal>
-    ensures says { step_of (λ b. (draft_of draft.new, b)) result reader.new ≡ from (block_turn_in (words_of words.now) (draft_of draft.old)) reader.old }
-    ensures charts { (draft_of draft.new).charts ≡ (draft_of draft.old).charts }
+fn block_turn(reading: &mut Reading<'_>) -> Result<ControlFlow<()>, Refusal>
+    ensures says { turned result reading.new ≡ here block_turn_in reading.old }
+    ensures stays { Stays reading.old reading.new }
 {
-    let token = reader.next(words)?;
-    let place = reader.place();
-    if token.is_word(Keyword::Instance) {
-        block(reader, words, draft)?;
-        return Ok(false);
+    let token = reading.reader.next()?;
+    let place = reading.reader.place();
+    match token {
+        Token::Word(Keyword::Instance) => {
+            block(reading)?;
+            Ok(ControlFlow::Continue(()))
+        }
+        Token::Word(Keyword::Endmsc) => Ok(ControlFlow::Break(())),
+        _ => Err(Refusal::Unexpected(place)),
     }
-    if token.is_word(Keyword::Endmsc) {
-        return Ok(true);
-    }
-    Err(Refusal::Unexpected(place))
 }
 
 // The blocks of a chart, and the word endmsc.
-pub fn blocks(reader: &mut Reader<'_>, words: &Words, draft: &mut Draft) -> Result<(), Refusal>
-    ensures says { step_of (λ _. draft_of draft.new) result reader.new ≡ from (blocks_in (words_of words.now) (draft_of draft.old)) reader.old }
-    ensures charts { (draft_of draft.new).charts ≡ (draft_of draft.old).charts }
+pub fn blocks(reading: &mut Reading<'_>) -> Result<(), Refusal>
+    ensures says { step_of (λ _. reading.new.draft) result reading.new.reader ≡ here blocks_in reading.old }
+    ensures stays { Stays reading.old reading.new }
 {
-    for i in 0..9usize {
-        if block_turn(reader, words, draft)? {
+    // written out, as the events of a part are
+    for _ in 0..TURNS {
+        if block_turn(reading)?.is_break() {
             return Ok(());
         }
     }
-    Err(Refusal::Limit(reader.at))
+    Err(Refusal::Limit(reading.reader.at()))
 }

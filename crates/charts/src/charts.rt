@@ -1,88 +1,65 @@
 // Reads the charts, up to the word that begins the graph.
 ghost use Rattle.std.specs.Prelude.{◌≡◌, true, [], length, nat_lt};
-ghost use Rattle.msc.specs.Doc.{chart_names};
-ghost use Rattle.msc.specs.Rows.{name_of};
-ghost use Rattle.lexis.specs.Readers.{words_of, step_of, from};
-ghost use Rattle.forms.specs.Reading.{new_name_at, charts_at};
-ghost use Rattle.draft.specs.Drafting.{draft_of};
-ghost use Rattle.charts.specs.Turns.{chart_in, chart_turn_in, charts_in, turned};
+ghost use Rattle.lexis.specs.Readers.{step_of};
+ghost use Rattle.forms.specs.Reading.{charts_at};
+ghost use Rattle.parts.specs.Readings.{drafted, here};
+ghost use Rattle.charts.specs.Turns.{chart_in, chart_turn_in, named};
 
 use crate::blocks::blocks;
-use draft::draft::Draft;
-use lexis::reader::Reader;
 use lexis::refusal::Refusal;
 use msc::name::Name;
 use msc::symbol::Symbol;
-use msc::words::{Keyword, Words};
+use msc::words::Keyword;
+use parts::names::new_name;
+use parts::reading::Reading;
+use std::ops::ControlFlow;
 
-// A name that no chart has.
-fn new_chart(reader: &mut Reader<'_>, words: &Words, draft: &Draft) -> Result<Name, Refusal>
-    ensures { step_of name_of result reader.new ≡ from (new_name_at (words_of words.now) (chart_names (draft_of draft.now).charts)) reader.old }
-{
-    let name = reader.name(words)?;
-    if draft.has_chart(name.as_bytes()) {
-        return Err(Refusal::Twice(reader.place()));
-    }
-    Ok(name)
-}
+// At most 64 charts, and what ends them.
+const TURNS: usize = 65;
 
-// blocks endmsc ; and the word msc, where the draft has room for a chart.
-fn chart(
-    reader: &mut Reader<'_>,
-    words: &Words,
-    draft: &mut Draft,
-    name: Name,
-) -> Result<(), Refusal>
-    requires { nat_lt (length (draft_of draft.old).charts) 64 ≡ true }
-    ensures { step_of (λ _. draft_of draft.new) result reader.new ≡ from (chart_in (words_of words.now) (draft_of draft.old) (name_of name)) reader.old }
+// blocks endmsc ; and the word msc, where the draft has room for a chart: its caller has tried that.
+fn chart(reading: &mut Reading<'_>, name: Name) -> Result<(), Refusal>
+    requires { nat_lt (length reading.old.draft.charts) 64 ≡ true }
+    ensures says { step_of (λ _. reading.new.draft) result reading.new.reader ≡ here (λ ws d. chart_in ws d name) reading.old }
+    ensures words { reading.new.reader.words ≡ reading.old.reader.words }
 {
-    blocks(reader, words, draft)?;
-    reader.sign(words, Symbol::Semi)?;
-    reader.keyword(words, Keyword::Msc)?;
-    draft.end_chart(name);
+    blocks(reading)?;
+    reading.reader.sign(Symbol::Semi)?;
+    reading.reader.keyword(Keyword::Msc)?;
+    reading.draft.end_chart(name);
     Ok(())
 }
 
 // Behind the word msc: name ; and then the word expr, which begins the graph and gives its name, or a chart.
-fn chart_turn(
-    reader: &mut Reader<'_>,
-    words: &Words,
-    draft: &mut Draft,
-) -> Result<Option<Name>, Refusal>
-    ensures { step_of (turned (draft_of draft.new)) result reader.new ≡ from (chart_turn_in (words_of words.now) (draft_of draft.old, [])) reader.old }
+fn chart_turn(reading: &mut Reading<'_>) -> Result<ControlFlow<Name>, Refusal>
+    ensures says { step_of (named reading.new.draft) result reading.new.reader ≡ here (λ ws d. chart_turn_in ws (d, [])) reading.old }
+    ensures words { reading.new.reader.words ≡ reading.old.reader.words }
 {
-    let name = new_chart(reader, words, draft)?;
-    reader.sign(words, Symbol::Semi)?;
-    let text = reader.text;
-    let back = reader.at;
-    let token = reader.next(words)?;
+    let name = new_name(&mut reading.reader, reading.draft.charts().as_slice())?;
+    reading.reader.sign(Symbol::Semi)?;
+    let back = reading.reader.copied();
+    let token = reading.reader.next()?;
     if token.is_word(Keyword::Expr) {
-        return Ok(Some(name));
+        return Ok(ControlFlow::Break(name));
     }
-    if !draft.has_room_chart() {
-        return Err(Refusal::Unexpected(reader.place()));
+    if !reading.draft.has_room_chart() {
+        return Err(Refusal::Unexpected(reading.reader.place()));
     }
-    reader.text = text;
-    reader.at = back;
-    chart(reader, words, draft, name)?;
-    Ok(None)
-}
-
-// The charts, and the graph's name.
-fn all_charts(reader: &mut Reader<'_>, words: &Words, draft: &mut Draft) -> Result<Name, Refusal>
-    ensures { step_of (λ n. (draft_of draft.new, name_of n)) result reader.new ≡ from (charts_in (words_of words.now) (draft_of draft.old)) reader.old }
-{
-    for i in 0..65usize {
-        if let Some(name) = chart_turn(reader, words, draft)? {
-            return Ok(name);
-        }
-    }
-    Err(Refusal::Limit(reader.at))
+    reading.reader = back;
+    chart(reading, name)?;
+    Ok(ControlFlow::Continue(()))
 }
 
 // Reads at most 64 charts behind the word msc, up to the graph's word expr; the answer is the graph's name.
-pub fn charts(reader: &mut Reader<'_>, words: &Words, draft: &mut Draft) -> Result<Name, Refusal>
-    ensures { step_of (λ n. (draft_of draft.new, name_of n)) result reader.new ≡ from (charts_at (words_of words.now) (draft_of draft.old)) reader.old }
+pub fn charts(reading: &mut Reading<'_>) -> Result<Name, Refusal>
+    ensures says { drafted result reading.new ≡ here charts_at reading.old }
+    ensures words { reading.new.reader.words ≡ reading.old.reader.words }
 {
-    all_charts(reader, words, draft)
+    // written out, as the events of a part are
+    for _ in 0..TURNS {
+        if let ControlFlow::Break(name) = chart_turn(reading)? {
+            return Ok(name);
+        }
+    }
+    Err(Refusal::Limit(reading.reader.at()))
 }

@@ -1,77 +1,71 @@
 // Reads the instance lines.
-ghost use Rattle.std.specs.Prelude.{◌≡◌};
-ghost use Rattle.lexis.specs.Readers.{words_of, step_of, from};
+ghost use Rattle.lexis.specs.Readers.{Reads};
 ghost use Rattle.forms.specs.Reading.{inst_at, inst_turn, instances_at};
-ghost use Rattle.draft.specs.Drafting.{draft_of};
-ghost use Rattle.charts.specs.Turns.{instances_in, lines_in};
+ghost use Rattle.lexis.specs.Steps.{is_last};
+ghost use Rattle.charts.specs.Turns.{instances_in};
 
 use draft::draft::Draft;
 use lexis::reader::Reader;
 use lexis::refusal::Refusal;
+use lexis::token::Token;
 use msc::symbol::Symbol;
-use msc::words::{Keyword, Words};
+use msc::words::Keyword;
 use parts::names::new_name;
+use std::ops::ControlFlow;
+
+// At most seven instance lines behind the first, and what ends them.
+const TURNS: usize = 8;
 
 // name ; of an instance, behind the word inst at a place.
-fn instance(
-    reader: &mut Reader<'_>,
-    words: &Words,
-    draft: &mut Draft,
-    place: usize,
-) -> Result<(), Refusal>
-    ensures { step_of (λ _. draft_of draft.new) result reader.new ≡ from (inst_at (words_of words.now) (draft_of draft.old) place) reader.old }
+// Reader and draft stay two parameters here, since the draft begins with the instances: a reading would be made of them only to be taken apart.
+fn instance(reader: &mut Reader<'_>, draft: &mut Draft, place: usize) -> Result<(), Refusal>
+    ensures { Reads (λ ws. inst_at ws draft.old place) (λ _. draft.new) result reader.old reader.new }
 {
     if !draft.has_room_instance() {
         return Err(Refusal::Limit(place));
     }
-    let name = new_name(reader, words, &draft.instances)?;
-    reader.sign(words, Symbol::Semi)?;
+    let name = new_name(reader, draft.instances())?;
+    reader.sign(Symbol::Semi)?;
     draft.push_instance(name);
     Ok(())
 }
 
 // Another instance line, or the word msc, which ends them.
-fn instance_turn(reader: &mut Reader<'_>, words: &Words, draft: &mut Draft) -> Result<bool, Refusal>
-    ensures { step_of (λ b. (draft_of draft.new, b)) result reader.new ≡ from (inst_turn (words_of words.now) (draft_of draft.old)) reader.old }
+fn instance_turn(reader: &mut Reader<'_>, draft: &mut Draft) -> Result<ControlFlow<()>, Refusal>
+    ensures { Reads (λ ws. inst_turn ws draft.old) (λ x. (draft.new, is_last x)) result reader.old reader.new }
 {
-    let token = reader.next(words)?;
+    let token = reader.next()?;
     let place = reader.place();
-    if token.is_word(Keyword::Inst) {
-        instance(reader, words, draft, place)?;
-        return Ok(false);
+    match token {
+        Token::Word(Keyword::Inst) => {
+            instance(reader, draft, place)?;
+            Ok(ControlFlow::Continue(()))
+        }
+        Token::Word(Keyword::Msc) => Ok(ControlFlow::Break(())),
+        _ => Err(Refusal::Unexpected(place)),
     }
-    if token.is_word(Keyword::Msc) {
-        return Ok(true);
-    }
-    Err(Refusal::Unexpected(place))
 }
 
 // What is left of the instance lines behind the first, and the word msc.
-fn more_instances(reader: &mut Reader<'_>, words: &Words, draft: &mut Draft) -> Result<(), Refusal>
-    ensures { step_of (λ _. draft_of draft.new) result reader.new ≡ from (instances_in (words_of words.now) (draft_of draft.old)) reader.old }
+fn more_instances(reader: &mut Reader<'_>, draft: &mut Draft) -> Result<(), Refusal>
+    ensures { Reads (λ ws. instances_in ws draft.old) (λ _. draft.new) result reader.old reader.new }
 {
-    for i in 0..8usize {
-        if instance_turn(reader, words, draft)? {
+    // written out, as the events of a part are
+    for _ in 0..TURNS {
+        if instance_turn(reader, draft)?.is_break() {
             return Ok(());
         }
     }
-    Err(Refusal::Limit(reader.at))
-}
-
-// One to eight instance lines, and the word msc.
-fn lines(reader: &mut Reader<'_>, words: &Words) -> Result<Draft, Refusal>
-    ensures { step_of draft_of result reader.new ≡ from (lines_in (words_of words.now)) reader.old }
-{
-    reader.keyword(words, Keyword::Inst)?;
-    let mut draft = Draft::new();
-    instance(reader, words, &mut draft, 0)?;
-    more_instances(reader, words, &mut draft)?;
-    Ok(draft)
+    Err(Refusal::Limit(reader.at()))
 }
 
 // Reads one to eight instance lines and the word msc behind them.
-pub fn instances(reader: &mut Reader<'_>, words: &Words) -> Result<Draft, Refusal>
-    ensures { step_of draft_of result reader.new ≡ from (instances_at (words_of words.now)) reader.old }
+pub fn instances(reader: &mut Reader<'_>) -> Result<Draft, Refusal>
+    ensures { Reads instances_at (λ d. d) result reader.old reader.new }
 {
-    lines(reader, words)
+    reader.keyword(Keyword::Inst)?;
+    let mut draft = Draft::new();
+    instance(reader, &mut draft, 0)?;
+    more_instances(reader, &mut draft)?;
+    Ok(draft)
 }

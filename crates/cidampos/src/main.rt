@@ -1,17 +1,20 @@
 // Reads, writes and judges procedures drawn as message sequence charts.
 #![tactic(auto)]
 
-mod report;
+mod command;
+mod failed;
 mod spot;
 
+use command::Command;
+use failed::Failed;
 use judge::accepted::{Accepted, judge};
 use msc::document::Document;
 use msc::words::Words;
 use reading::read::read;
-use report::{Failed, refuse_reading};
+use spot::show_spot;
 use std::io::{Read, Write};
 use std::process::ExitCode;
-use std::{env, fs, io};
+use std::{fs, io};
 use writing::writer::write;
 
 // The longest text.
@@ -38,27 +41,29 @@ fn input(rt: &HostRuntime, name: &str) -> io::Result<Vec<u8>> {
     }
 }
 
-// The shortest text of a document, and a line feed.
-fn print_text(rt: &HostRuntime, document: &Document) -> Result<(), Failed> {
-    let mut out = vec![in rt.alloc(); 0u8; MOST]?;
-    match write(document, &mut out) {
-        Ok(n) => {
-            if n <= out.len() {
-                rt.stdout().write_all(&out[0..n])?;
-            }
-            rt.println("")?;
-            Ok(())
+// The document in a text; where it is refused, the spot is shown.
+fn parsed(rt: &HostRuntime, text: &[u8]) -> Result<Document, Failed> {
+    match read(text, &Words::standard()) {
+        Ok(document) => Ok(document),
+        Err(refusal) => {
+            show_spot(rt, text, refusal)?;
+            Err(Failed::from(refusal))
         }
-        Err(refusal) => report::refuse(rt, refusal.number(), refusal.value()),
     }
 }
 
-fn print_leaders(rt: &HostRuntime, accepted: &Accepted) -> io::Result<()> {
-    println!(rt; "accepted")?;
-    for label in 0..accepted.document().labels() {
-        print_leader(rt, accepted, label)?;
-    }
-    print_leader(rt, accepted, 64)
+// The shortest text of a document.
+fn written(rt: &HostRuntime, document: &Document) -> Result<Vec<u8>, Failed> {
+    let mut text = vec![in rt.alloc(); 0u8; MOST]?;
+    let n = write(document, &mut text)?;
+    text.truncate(n);
+    Ok(text)
+}
+
+// A text, and a line feed.
+fn print(rt: &HostRuntime, text: &[u8]) -> io::Result<()> {
+    rt.stdout().write_all(text)?;
+    rt.println("")
 }
 
 fn print_leader(rt: &HostRuntime, accepted: &Accepted, label: usize) -> io::Result<()> {
@@ -68,81 +73,52 @@ fn print_leader(rt: &HostRuntime, accepted: &Accepted, label: usize) -> io::Resu
     }
 }
 
-fn judge_document(rt: &HostRuntime, document: &Document) -> Result<(), Failed> {
+// The judge's answer: the leader of each label's list and of the start list, whose number is 64.
+fn judged(rt: &HostRuntime, document: &Document) -> Result<(), Failed> {
     let mut place = Accepted::built_in();
-    match judge(document, &mut place) {
-        Ok(()) => {
-            print_leaders(rt, &place)?;
-            Ok(())
-        }
-        Err(refusal) => report::refuse(rt, refusal.number(), refusal.value() as usize),
+    judge(document, &mut place)?;
+    println!(rt; "accepted")?;
+    // by number, since the number is printed
+    for label in 0..document.labels() {
+        print_leader(rt, &place, label)?;
     }
+    print_leader(rt, &place, 64)?;
+    Ok(())
 }
 
 fn built_in(rt: &HostRuntime) -> Result<(), Failed> {
-    let document = Document::built_in();
-    let mut out = vec![in rt.alloc(); 0u8; MOST]?;
-    let Ok(n) = write(&document, &mut out) else {
-        return Err(Failed::Refused);
-    };
-    if n > out.len() {
-        return Err(Failed::Refused);
-    }
-    println!(rt; "the built-in document, {n} bytes:")?;
-    rt.stdout().write_all(&out[0..n])?;
-    rt.println("")?;
-    match read(&out[0..n], &Words::standard()) {
-        Ok(again) => {
-            println!(rt; "read back:")?;
-            print_text(rt, &again)?;
-            judge_document(rt, &again)
-        }
-        Err(refusal) => refuse_reading(rt, &out[0..n], refusal),
-    }
-}
-
-fn with_file(rt: &HostRuntime, command: &str, name: &str) -> Result<(), Failed> {
-    let text = input(rt, name)?;
-    match read(&text, &Words::standard()) {
-        Ok(document) => {
-            if command == "write" {
-                print_text(rt, &document)
-            } else {
-                judge_document(rt, &document)
-            }
-        }
-        Err(refusal) => refuse_reading(rt, &text, refusal),
-    }
+    let text = written(rt, &Document::built_in())?;
+    println!(rt; "the built-in document, {} bytes:", text.len())?;
+    print(rt, &text)?;
+    let again = parsed(rt, &text)?;
+    println!(rt; "read back:")?;
+    print(rt, &written(rt, &again)?)?;
+    judged(rt, &again)
 }
 
 fn run(rt: &HostRuntime) -> Result<(), Failed> {
-    let mut words = env::args(rt)?;
-    let _ = words.next();
-    let Some(command) = words.next() else {
-        return built_in(rt);
-    };
-    let word = command.as_str();
-    if word == "--help" {
-        rt.println(HELP)?;
-        return Ok(());
-    }
-    match words.next() {
-        Some(name) => {
-            if word == "write" || word == "judge" {
-                return with_file(rt, command.as_str(), name.as_str());
-            }
+    match Command::given(rt)? {
+        Command::BuiltIn => built_in(rt),
+        Command::Help => Ok(rt.println(HELP)?),
+        Command::Write(name) => {
+            let document = parsed(rt, &input(rt, name.as_str())?)?;
+            Ok(print(rt, &written(rt, &document)?)?)
         }
-        None => {}
+        Command::Judge(name) => judged(rt, &parsed(rt, &input(rt, name.as_str())?)?),
     }
-    rt.eprintln("cidampos: not a command; see cidampos --help")?;
-    Err(Failed::Usage)
 }
 
 fn main(rt: HostRuntime) -> Result<ExitCode, Failed> {
     match run(&rt) {
         Ok(()) => Ok(ExitCode::SUCCESS),
-        // what there is to say has been said
-        Err(Failed::Refused) | Err(Failed::Usage) => Ok(ExitCode::FAILURE),
+        Err(Failed::Refused { number, value }) => {
+            println!(rt; "refused {number} at {value}")?;
+            Ok(ExitCode::FAILURE)
+        }
+        Err(Failed::Usage) => {
+            rt.eprintln("cidampos: not a command; see cidampos --help")?;
+            Ok(ExitCode::FAILURE)
+        }
         Err(failed) => Err(failed),
     }
 }

@@ -1,15 +1,17 @@
--- One event more is counted.
-use Rattle.std.proofs.Common.{◌≡◌, ℕ, suc, ◌+◌, ◌<◌, Bool, cond, List, ◌∷◌, length, get_or, drop, sym, refl, ap, ◌∙◌}
-use Rattle.std.proofs.lemmas.List.{at_drop_more}
+-- The outs among events.
+use Rattle.std.proofs.Common.{◌≡◌, suc, List, [], ◌∷◌, length, sym, refl, ap, ◌∙◌}
+use Rattle.std.specs.List.{filter, count_by}
+use Rattle.std.proofs.lemmas.List.Sums.{length-filter}
 use Rattle.msc.specs.Doc.{out_count}
 use Rattle.msc.specs.declared.event.Event.{Event}
 use Rattle.msc.specs.declared.event.Event.TheVariants.{Out, In, Action}
 use Rattle.draft.specs.Outs.{is_out}
 
-here : (e : Event) (es : List Event) → out_count (e ∷ es) ≡ cond (is_out e) (suc (out_count es)) (out_count es)
-here (Out n q) es = refl
-here (In n p) es = refl
-here (Action n) es = refl
+kept : (es : List Event) → length (filter is_out es) ≡ out_count es
+kept [] = refl
+kept (Out n q ∷ es) = ap suc (kept es)
+kept (In n p ∷ es) = kept es
+kept (Action n ∷ es) = kept es
 
-pub counted : (es : List Event) (i : ℕ) (d : Event) (b : Bool) → i < length es → b ≡ is_out (get_or es i d) → out_count (drop i es) ≡ cond b (suc (out_count (drop (i + 1) es))) (out_count (drop (i + 1) es))
-counted es i d b h e = at_drop_more out_count es i d h ∙ here (get_or es i d) (drop (i + 1) es) ∙ ap (λ x. cond x (suc (out_count (drop (i + 1) es))) (out_count (drop (i + 1) es))) (sym e)
+pub counted : (es : List Event) → count_by is_out es ≡ out_count es
+counted es = sym (length-filter is_out es) ∙ kept es

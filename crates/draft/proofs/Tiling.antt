@@ -5,7 +5,6 @@ use Rattle.std.proofs.lemmas.List.{append_assoc, length-drop, take-append-le, dr
 use Rattle.std.proofs.lemmas.Bool.{eqb-true, eq-eqb, leb-true, le-leb, and_parts, and_from}
 use Rattle.msc.specs.Doc.{chart_events, all_events}
 use Rattle.msc.specs.Doc as doc
-use Rattle.msc.specs.Rows.{name_of}
 use Rattle.msc.specs.Stored.{cut, charts_from}
 use Rattle.msc.specs.declared.chart.Chart.{Chart}
 use Rattle.msc.specs.declared.event.Event.{Event}
@@ -76,14 +75,14 @@ charts_longer es fs a (c ∷ cs) b t h =
     let z = get_or c.ends 7 0 in
     let p = and_parts (tiles a c.ends z) (rows z cs b) t in
     let l : z ≤ length es = omega (arith, rows_le z cs b p.1) in
-    ap (λ (x : List doc.Chart). record { name = name_of c.name; parts = cut (es ++ fs) a c.ends } ∷ x) (charts_longer es fs z cs b p.1 h)
-    ∙ ap (λ (x : List (List Event)). record { name = name_of c.name; parts = x } ∷ charts_from es z cs) (cut_longer es fs a c.ends z p.0 l)
+    ap (λ (x : List doc.Chart). record { name = c.name; parts = cut (es ++ fs) a c.ends } ∷ x) (charts_longer es fs z cs b p.1 h)
+    ∙ ap (λ (x : List (List Event)). record { name = c.name; parts = x } ∷ charts_from es z cs) (cut_longer es fs a c.ends z p.0 l)
 
-pub charts_push : (es : List Event) (a : ℕ) (cs : List Chart) (b : ℕ) (c : Chart) → rows a cs b ≡ true → charts_from es a (cs ++ c ∷ []) ≡ charts_from es a cs ++ record { name = name_of c.name; parts = cut es b c.ends } ∷ []
-charts_push es a [] b c t = ap (λ (x : ℕ). record { name = name_of c.name; parts = cut es x c.ends } ∷ []) (eqb-true a b t)
+pub charts_push : (es : List Event) (a : ℕ) (cs : List Chart) (b : ℕ) (c : Chart) → rows a cs b ≡ true → charts_from es a (cs ++ c ∷ []) ≡ charts_from es a cs ++ record { name = c.name; parts = cut es b c.ends } ∷ []
+charts_push es a [] b c t = ap (λ (x : ℕ). record { name = c.name; parts = cut es x c.ends } ∷ []) (eqb-true a b t)
 charts_push es a (d ∷ cs) b c t =
     let z = get_or d.ends 7 0 in
-    ap (λ (x : List doc.Chart). record { name = name_of d.name; parts = cut es a d.ends } ∷ x) (charts_push es z cs b c (and_parts (tiles a d.ends z) (rows z cs b) t).1)
+    ap (λ (x : List doc.Chart). record { name = d.name; parts = cut es a d.ends } ∷ x) (charts_push es z cs b c (and_parts (tiles a d.ends z) (rows z cs b) t).1)
 
 pub joined_charts : (es : List Event) (a : ℕ) (cs : List Chart) (b : ℕ) → rows a cs b ≡ true → all_events (charts_from es a cs) ++ drop b es ≡ drop a es
 joined_charts es a [] b t = ap (λ x. drop x es) (sym (eqb-true a b t))

@@ -1,20 +1,38 @@
--- What a draft holds.
-use Rattle.std.specs.Prelude.{[], map, take, drop}
-use Rattle.msc.specs.Rows.{name_of, items_of}
-use Rattle.msc.specs.Stored.{cut, charts_from}
-use Rattle.forms.specs.Drafts as drafts
-use Rattle.draft.specs.declared.draft.Draft.{Draft}
-
-abbrev pub draft_of : Draft → drafts.Draft
-draft_of d = record {
-  instances = map name_of (items_of d.instances);
-  messages = map name_of (items_of d.messages);
-  actions = map name_of (items_of d.actions);
-  charts = charts_from (items_of d.events) 0 (items_of d.charts);
-  parts = cut (items_of d.events) d.first (take d.closed d.ends);
-  part = drop d.«open» (items_of d.events);
-}
+-- What is done to a draft, beyond what reading says.
+use Rattle.std.specs.Prelude.{ℕ, cond, List, [], ◌∷◌, ◌++◌, length, nat_lt, Some, None, Option}
+use Rattle.msc.specs.Doc.{Doc}
+use Rattle.msc.specs.Spelling.{place}
+use Rattle.msc.specs.declared.label.Label.{Label}
+use Rattle.forms.specs.Drafts.{Draft}
 
 -- the same, its open part left out
-abbrev pub unopened : drafts.Draft → drafts.Draft
-unopened d = record { instances = d.instances; messages = d.messages; actions = d.actions; charts = d.charts; parts = d.parts; part = [] }
+abbrev pub unopened : Draft → Draft
+unopened d = record d { part = [] }
+
+-- the names after it and the number of a name w, which is new or among them; at most 128
+abbrev pub numbered_by : List (List ℕ) → List ℕ → Option ℕ → List (List ℕ) × Option ℕ
+numbered_by names w (Some k) = (names, Some k)
+numbered_by names w None = cond (nat_lt (length names) 128) (names ++ (w ∷ []), Some (length names)) (names, None)
+
+abbrev pub numbered : List (List ℕ) → List ℕ → List (List ℕ) × Option ℕ
+numbered names w = numbered_by names w (place names w)
+
+abbrev pub message_in : Draft → List ℕ → Draft × Option ℕ
+message_in d w = let n = numbered d.messages w in (record d { messages = n.0 }, n.1)
+
+abbrev pub action_in : Draft → List ℕ → Draft × Option ℕ
+action_in d w = let n = numbered d.actions w in (record d { actions = n.0 }, n.1)
+
+-- the document of a draft, with the words ws, its title, the graph's name and start list, and the labels
+abbrev pub document_of : Draft → List (List ℕ) → List ℕ → List ℕ → List ℕ → List Label → Doc
+document_of d ws title graph start labels = record {
+  words = ws;
+  title = title;
+  instances = d.instances;
+  messages = d.messages;
+  actions = d.actions;
+  charts = d.charts;
+  graph = graph;
+  start = start;
+  labels = labels;
+}

@@ -1,3 +1,4 @@
 pub mod Tiles
+pub mod Laid
 pub mod Drafting
 pub mod Outs

@@ -3,4 +3,3 @@
 
 pub mod counts;
 pub mod draft;
-pub mod drafting;

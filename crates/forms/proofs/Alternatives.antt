@@ -1,9 +1,11 @@
 -- Lists of labels: their tokens, their names, and what looking the names up gives. Assumes nothing.
+use Rattle.msc.specs.declared.label.Body.{Body}
+use Rattle.msc.specs.declared.label.Label.{Label}
 use Rattle.std.proofs.Common.{◌≡◌, ℕ, suc, ◌+◌, ◌<◌, true, false, not, eqb, ltb, List, [], ◌∷◌, ◌++◌, length, get_or, Some, None, Ok, Err, Option, Result, sym, refl, ap, ◌∙◌, subst, arith}
 use Rattle.std.specs.Str.{bytes_eq}
 use Rattle.std.proofs.lemmas.Slice.Eq.{bytes_eq-Decides}
 use Rattle.std.proofs.lemmas.Bool.{both_ways, and_parts, and_from, or_parts, or_from, not-true, not_from_false, eqb-true, eqb-false, ltb-true, lt-ltb}
-use Rattle.msc.specs.Doc.{Body, Label, label_names}
+use Rattle.msc.specs.Doc.{label_names}
 use Rattle.msc.specs.Shortest.{list_tokens}
 use Rattle.msc.specs.Sound.{among, differ}
 use Rattle.msc.specs.Spelling.{every, has, place, distinct}

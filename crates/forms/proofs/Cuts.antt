@@ -4,14 +4,14 @@ use Rattle.std.specs.List.{prefix_len}
 use Rattle.std.proofs.lemmas.List.{take-append-drop, take_at, drop_at}
 use Rattle.std.proofs.lemmas.Bool.{not-true, not_from_false, and_parts, and_from, or_cases, or_from, or_left, cond-true, cond-false, cond_both, false≢true, eqb-true, eq-eqb, ne_eqb, leb-true, ltb-true, ltb-false, lt-ltb, le-ltb}
 use Rattle.msc.specs.Spelling.{within, letter, inner, wordy, is_word, place, every, distinct, is_vocabulary, is_name}
-use Rattle.msc.specs.Tokens.{Tok, name, word, sign, end, rank, spelling, sign_byte, spelled}
+use Rattle.msc.specs.Tokens.{keywords, Tok, name, word, sign, end, rank, spelling, sign_byte, spelled}
 use Rattle.msc.specs.declared.symbol.Symbol.{Symbol}
 use Rattle.msc.specs.declared.symbol.Symbol.TheVariants as symbol
 use Rattle.msc.specs.declared.words.Keyword.{Keyword}
 use Rattle.msc.specs.declared.words.Keyword.TheVariants as keyword
 use Rattle.lexis.specs.Classes.{separator, class_of}
 use Rattle.lexis.specs.Steps.{Step, got}
-use Rattle.lexis.specs.Lexing.{keywords, at_place, tok_of, word_of, by_class, first_of, next_of}
+use Rattle.lexis.specs.Lexing.{at_place, tok_of, word_of, by_class, first_of, next_of}
 use Rattle.lexis.specs.declared.class.Class.{Class}
 use Rattle.lexis.specs.declared.class.Class.TheVariants.{Separator, Letter, Inner, Open, Close, Colon, Semi, Illegal}
 use Rattle.forms.specs.Writes.{Blank, Apart}

@@ -1,7 +1,8 @@
 -- What it is for a document to be well formed, condition by condition. Assumes nothing.
+use Rattle.msc.specs.declared.label.Label.{Label}
 use Rattle.std.proofs.Common.{◌≡◌, ◌≤◌, Bool, true, ◌&&◌, leb, [], ◌∷◌, ◌++◌, length}
 use Rattle.std.proofs.lemmas.Bool.{and_parts, and_from, leb-true, le-leb}
-use Rattle.msc.specs.Doc.{Doc, Label, all_events, chart_names, label_names}
+use Rattle.msc.specs.Doc.{Doc, all_events, chart_names, label_names}
 use Rattle.msc.specs.Shortest.{text_of}
 use Rattle.msc.specs.Sound.{well_formed, most, many, names, chart, numbered, list, body}
 use Rattle.msc.specs.Spelling.{every, is_name, is_vocabulary}

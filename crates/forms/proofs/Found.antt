@@ -1,8 +1,9 @@
 -- Backwards, the whole: a text that is read as a document writes it, and the document is well formed. Assumes nothing.
+use Rattle.msc.specs.declared.label.Label.{Label}
 use Rattle.std.proofs.Common.{◌≡◌, ℕ, ◌≤◌, Bool, true, false, cond, leb, List, [], ◌∷◌, ◌++◌, length, Ok, Err, sym, refl, ap, ◌∙◌, subst, append_assoc, append-nil, arith}
 use Rattle.std.specs.List.{flat_map}
 use Rattle.std.proofs.lemmas.Bool.{and_from, eq-eqb, leb-true, le-leb}
-use Rattle.msc.specs.Doc.{Doc, Chart, Label, all_events, chart_names, label_names}
+use Rattle.msc.specs.Doc.{Doc, Chart, all_events, chart_names, label_names}
 use Rattle.msc.specs.Shortest.{inst_tokens, list_tokens, label_tokens}
 use Rattle.msc.specs.Sound.{well_formed, most, names, chart, numbered, list, body}
 use Rattle.msc.specs.Spelling.{every, is_name, is_vocabulary}

@@ -1,9 +1,10 @@
 -- Backwards, the graph: what was read of lists and label lines stands in the text, and keeps the rules. Assumes nothing.
+use Rattle.msc.specs.declared.label.Body.{Body}
+use Rattle.msc.specs.declared.label.Label.{Label}
+use Rattle.msc.specs.declared.label.Body.TheVariants.{End as label-final, Node as label-node}
 use Rattle.std.proofs.Common.{◌≡◌, ℕ, ◌+◌, ◌≤◌, Bool, true, false, ◌&&◌, ltb, List, [], ◌∷◌, ◌++◌, length, get_or, Ok, sym, refl, ap, ◌∙◌, subst, append_assoc, append-nil, arith, length-append}
 use Rattle.std.specs.List.{flat_map}
 use Rattle.std.proofs.lemmas.Bool.{and_parts, and_from, ltb-true, lt-ltb, le-leb}
-use Rattle.msc.specs.Doc.{Body, Label}
-use Rattle.msc.specs.Doc as doc
 use Rattle.msc.specs.Shortest.{list_tokens, body_tokens, label_tokens}
 use Rattle.msc.specs.Sound.{list, body}
 use Rattle.msc.specs.Spelling.{every, has, distinct, is_name, is_vocabulary}
@@ -100,7 +101,7 @@ module _ (ws : List (List ℕ)) (v : is_vocabulary ws ≡ true) where
         let (k, p1, s1, e1, h1) = then_got (next_of ws p s) _ h in
         either_case (is_key keyword.End k.0) _ _ h1
         (λ j h.
-        let g : doc.final ≡ b = ok_value (ap (resolve_rest names) (got_value h) ∙ e) in
+        let g : label-final ≡ b = ok_value (ap (resolve_rest names) (got_value h) ∙ e) in
         subst (λ b. (body (length cs) (length names) b ≡ true) × Takes ws (body_tokens cs names b) s r) g (refl, then (cut_to ws (got_rest h) (token_got ws v p s k.0 (word keyword.End) k.1 p1 s1 e1 (is_key_lem keyword.End k.0 j) tt)) done))
         (λ j h.
         let (j2, h2) = when_got (is_sign Open k.0) _ _ h in
@@ -110,7 +111,7 @@ module _ (ws : List (List ℕ)) (v : is_vocabulary ws ≡ true) where
         let (u5, p5, s5, e5, h6) = then_got (sign_at ws Open p4 s4) _ h5 in
         let (ms, p6, s6, e6, h7) = then_got (list_at ws Close p5 s5) _ h6 in
         let (ls, f1, f2) = follow_got names (resolve names ms) _ (ap (resolve_rest names) (got_value h7) ∙ e) in
-        let g : doc.node c.0 ls ≡ b = ok_value f2 in
+        let g : label-node c.0 ls ≡ b = ok_value f2 in
         let (cn, lt) = old_name_got ws v cs p1 s1 e2 in
         let (ok, t) = list_is Close p5 s5 e6 names ls f1 in
         subst (λ b. (body (length cs) (length names) b ≡ true) × Takes ws (body_tokens cs names b) s r) g (

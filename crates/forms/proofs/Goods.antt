@@ -1,8 +1,11 @@
 -- The tokens of a form of a well-formed document are tokens that a text can hold. Assumes nothing.
+use Rattle.msc.specs.declared.label.Body.{Body}
+use Rattle.msc.specs.declared.label.Body.TheVariants.{End as final, Node as node}
+use Rattle.msc.specs.declared.label.Label.{Label}
 use Rattle.std.proofs.Common.{◌≡◌, ℕ, suc, ◌<◌, ◌≤◌, max, true, cond, not, ◌&&◌, eqb, ltb, leb, ◌⊎◌, List, [], ◌∷◌, ◌++◌, length, sym, refl, ap, subst, inl, inr, arith}
 use Rattle.std.specs.List.{flat_map, AllByRecursion}
 use Rattle.std.proofs.lemmas.Bool.{and_parts, eqb-true, ltb-true}
-use Rattle.msc.specs.Doc.{Doc, Chart, Body, final, node, Label, chart_events, all_events, chart_names, label_names, out_count}
+use Rattle.msc.specs.Doc.{Doc, Chart, chart_events, all_events, chart_names, label_names, out_count}
 use Rattle.msc.specs.Shortest.{inst_tokens, event_tokens, block_tokens, list_tokens, body_tokens, label_tokens, graph_tokens}
 use Rattle.msc.specs.Sound.{many, names, partner, parts, chart, numbered, list, body, differ}
 use Rattle.msc.specs.Spelling.{every, distinct, is_name}

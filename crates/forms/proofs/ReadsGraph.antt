@@ -1,10 +1,12 @@
 -- Forwards, the graph and the whole: a text that writes a well-formed document is read as it. Assumes nothing.
+use Rattle.msc.specs.declared.label.Body.{Body}
+use Rattle.msc.specs.declared.label.Label.{Label}
+use Rattle.msc.specs.declared.label.Body.TheVariants.{End as label-final, Node as label-node}
 use Rattle.std.proofs.Common.{◌≡◌, ℕ, zero, suc, ◌+◌, ◌≤◌, true, false, ◌&&◌, ltb, leb, List, [], ◌∷◌, ◌++◌, length, get_or, take, Some, Ok, Result, sym, refl, ap, ◌∙◌, subst, append_assoc, append-nil, arith, length-append}
 use lib.Seq.{take-length}
 use Rattle.std.specs.List.{flat_map}
 use Rattle.std.proofs.lemmas.Bool.{and_parts, ltb-true, leb-true, lt-ltb, cond-true, le-leb}
-use Rattle.msc.specs.Doc.{Doc, Body, Label, all_events, chart_names, label_names}
-use Rattle.msc.specs.Doc as doc
+use Rattle.msc.specs.Doc.{Doc, all_events, chart_names, label_names}
 use Rattle.msc.specs.Shortest.{inst_tokens, list_tokens, body_tokens, label_tokens}
 use Rattle.msc.specs.Sound.{most, many, names, list, body, differ}
 use Rattle.msc.specs.Spelling.{every, place, distinct, is_vocabulary}
@@ -64,10 +66,10 @@ module _ (ws : List (List ℕ)) (v : is_vocabulary ws ≡ true) where
 
   rest_comes : (cs ns : List (List ℕ)) (b : Body) {s r : List ℕ} → distinct cs ≡ true → distinct ns ≡ true → body (length cs) (length ns) b ≡ true → Takes ws (body_tokens cs ns b) s r → (pl : ℕ)
       → (x : Rest) × (resolve_rest ns x ≡ Ok b) × Comes (rest_at ws cs pl s) x r
-  rest_comes cs ns doc.final {s} dc dn h (then c done) pl =
+  rest_comes cs ns label-final {s} dc dn h (then c done) pl =
       let (q, e) = next_comes ws v (word keyword.End) c pl in
       (final, refl, and_at (next_of ws pl s) _ e (_, refl))
-  rest_comes cs ns (doc.node k ls) {s} dc dn h (then c (then c1 (then c2 (then c3 (then c4 t))))) pl =
+  rest_comes cs ns (label-node k ls) {s} dc dn h (then c (then c1 (then c2 (then c3 (then c4 t))))) pl =
       let (h1, h2) = and_parts (ltb k (length cs)) (list (length ns) ls) h in
       let z : 0 + k ≡ k = omega arith in
       let at : place cs (get_or cs k []) ≡ Some k = place_found 0 cs k dc (ltb-true k (length cs) h1) ∙ ap Some z in
@@ -78,7 +80,7 @@ module _ (ws : List (List ℕ)) (v : is_vocabulary ws ≡ true) where
       let e4 = sign_comes ws v Open c4 e3.0 in
       let (ms, is, e5) = list_comes ns ls Close dn h2 t e4.0 in (
         node k ms,
-        ap (λ o. follow o λ ls. Ok (doc.node k ls)) is,
+        ap (λ o. follow o λ ls. Ok (label-node k ls)) is,
         and_at (next_of ws pl s) _ e (and_at _ _ e1 (and_at _ _ e2 (and_at _ _ e3 (and_at _ _ e4 (and_at _ _ e5 (_, refl)))))),
       )
 

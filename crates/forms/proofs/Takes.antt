@@ -2,13 +2,13 @@
 use Rattle.std.proofs.Common.{◌≡◌, ℕ, ◌<◌, Bool, true, false, cond, eqb, List, [], ◌∷◌, ◌++◌, length, get_or, Some, None, Option, sym, refl, ap, ◌∙◌, subst, inl, inr, arith}
 use Rattle.std.proofs.lemmas.Bool.{false≢true, eqb-true, eq-eqb, cond-true}
 use Rattle.msc.specs.Spelling.{is_vocabulary, is_name, place, has}
-use Rattle.msc.specs.Tokens.{Tok, name, word, sign, end, rank, sign_byte}
+use Rattle.msc.specs.Tokens.{keywords, Tok, name, word, sign, end, rank, sign_byte}
 use Rattle.msc.specs.declared.symbol.Symbol.{Symbol}
 use Rattle.msc.specs.declared.symbol.Symbol.TheVariants as symbol
 use Rattle.msc.specs.declared.words.Keyword.{Keyword}
 use Rattle.msc.specs.declared.words.Keyword.TheVariants as keyword
 use Rattle.lexis.specs.Steps.{Step, got, bad}
-use Rattle.lexis.specs.Lexing.{keywords, next_of, as_name, name_at, is_key, is_sign, is_end, token_at, word_at, sign_at, end_at}
+use Rattle.lexis.specs.Lexing.{next_of, as_name, name_at, is_key, is_sign, is_end, token_at, word_at, sign_at, end_at}
 use Rattle.lexis.specs.declared.refusal.Refusal.TheVariants as refusal
 use Rattle.forms.specs.Writes.{Blank, Spelled}
 use Rattle.forms.specs.Reading.{known, new_name_at, old_name_at}

@@ -1,8 +1,10 @@
 -- What reading a text means: the forms from left to right, the first fault counting.
 -- Each function here gives what stands at a place p of the text, whose rest from there is s; `ws` are the reserved words in force.
+use Rattle.msc.specs.declared.label.Body.{Body}
+use Rattle.msc.specs.declared.label.Label.{Label}
+use Rattle.msc.specs.declared.label.Body.TheVariants.{End as label-final, Node as label-node}
 use Rattle.std.specs.Prelude.{ℕ, Bool, true, false, cond, ◌&&◌, List, [], ◌∷◌, ◌++◌, length, Some, None, Ok, Err, Option, Result, ◌==◌, nat_le, nat_lt}
-use Rattle.msc.specs.Doc.{Doc, Chart, Body, Label, chart_names, out_count}
-use Rattle.msc.specs.Doc as doc
+use Rattle.msc.specs.Doc.{Doc, chart_names, out_count}
 use Rattle.msc.specs.Sound.{most}
 use Rattle.msc.specs.Spelling.{place, has}
 use Rattle.msc.specs.Tokens.{Tok, name, word, sign, end}
@@ -204,8 +206,8 @@ resolve names [] = Ok []
 resolve names (m ∷ ms) = follow (label_at (place names m.name) m.at) λ l. follow (resolve names ms) λ ls. Ok (l ∷ ls)
 
 abbrev pub resolve_rest : List (List ℕ) → Rest → Result Body Refusal
-resolve_rest names final = Ok doc.final
-resolve_rest names (node c ms) = follow (resolve names ms) λ ls. Ok (doc.node c ls)
+resolve_rest names final = Ok label-final
+resolve_rest names (node c ms) = follow (resolve names ms) λ ls. Ok (label-node c ls)
 
 abbrev pub resolve_lines : List (List ℕ) → List Line → Result (List Label) Refusal
 resolve_lines names [] = Ok []

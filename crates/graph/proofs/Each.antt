@@ -1,12 +1,18 @@
 -- A loop that turns each row of a list into one of another, or stops at the first refusal.
-use Rattle.std.proofs.Common.{◌≡◌, ℕ, ◌+◌, ◌<◌, ◌≤◌, List, [], ◌∷◌, ◌++◌, length, get_or, drop, Ok, Err, Result, sym, refl, ap, ◌∙◌, append_assoc, append-nil}
+use Rattle.std.proofs.Common.{◌≡◌, ℕ, ◌+◌, ◌<◌, ◌≤◌, Bool, cond, List, [], ◌∷◌, ◌++◌, length, get_or, drop, Ok, Err, Result, sym, refl, ap, ◌∙◌, append_assoc, append-nil}
+use Rattle.std.specs.Prelude.{nat_lt}
 use Rattle.std.proofs.lemmas.List.{at_drop_more, at_drop_all}
+use Rattle.std.proofs.lemmas.Bool.{lt-ltb, cond-true}
 use Rattle.lexis.specs.declared.refusal.Refusal.{Refusal}
 use Rattle.forms.specs.Reading.{follow}
 
 joins : {B : Type 0} (x : Result (List B) Refusal) (acc : List B) (b : B) → follow (follow x (λ r. Ok (b ∷ r))) (λ r. Ok (acc ++ r)) ≡ follow x (λ r. Ok ((acc ++ (b ∷ [])) ++ r))
 joins (Ok r) acc b = ap Ok (sym (append_assoc acc (b ∷ []) r))
 joins (Err e) acc b = refl
+
+-- where there is room, an item more stands at the end
+pub pushed : {B : Type 0} (n : ℕ) (acc : List B) (b : B) (done : Bool) (new : List B) → length acc < n → done ≡ nat_lt (length acc) n → new ≡ cond done (acc ++ (b ∷ [])) acc → new ≡ acc ++ (b ∷ [])
+pushed n acc b done new few is items = items ∙ cond-true _ _ _ (is ∙ lt-ltb _ _ few)
 
 -- F turns each x into mk x b, where g answers b for it
 module _ {A B C : Type 0} (F : List A → Result (List B) Refusal) (g : A → Result C Refusal) (mk : A → C → B)

@@ -1,3 +1,4 @@
+pub mod Lists
 pub mod Lines
+pub mod Fields
 pub mod Parts
-pub mod Told

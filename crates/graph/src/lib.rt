@@ -3,7 +3,7 @@
 
 pub mod grammar;
 pub mod line;
-pub mod lists;
+pub mod lines;
 pub mod mention;
 pub mod mentions;
 pub mod resolve;

@@ -63,7 +63,7 @@ matched p q = rw (drawn_is p, drawn_is q) (two_paired p q)
 free_two : (i : ℕ) → BeginsFree (two i) → i ≡ 0
 free_two zero b = refl
 free_two (suc zero) (v, vs, h, f) = let e : v ≡ In 0 0 = cc in absurd (subst NotIn e f)
-free_two (suc (suc i)) (v, vs, h, f) = let z : ◌≡◌ {A = ℕ} 0 1 = cc in omega arith
+free_two (suc (suc i)) (v, vs, h, f) = cc
 
 first_zero : (x : Occ) → First m.drawn (0 ∷ []) x → inst x ≡ 0
 first_zero x f = free_two (inst x) (subst BeginsFree (drawn_is (inst x)) (first_free m.drawn 0 matched x f))
@@ -92,7 +92,7 @@ complete (occ zero (spot (suc (suc i)) k)) h = absurd (let z : ⊥ = omega arith
 none_ahead : (y : Occ) → Direct both (0 ∷ []) y (occ 0 (spot 0 0)) → ⊥
 none_ahead (occ j (spot p a)) (r, inl (s, h)) = omega arith
 none_ahead (occ j (spot p a)) (r, inr (e, inl (s, h))) = omega arith
-none_ahead (occ zero (spot p a)) (r, inr (e, inr (n, k, xs, ys, da, db, c))) = let d : Out 0 1 ∷ [] ≡ In k p ∷ ys = db in let z : ◌≡◌ {A = ℕ} 0 1 = cc in omega arith
+none_ahead (occ zero (spot p a)) (r, inr (e, inr (n, k, xs, ys, da, db, c))) = let d : Out 0 1 ∷ [] ≡ In k p ∷ ys = db in cc
 none_ahead (occ (suc j) (spot p a)) (r, inr (e, inr g)) = omega arith
 
 one_ahead : (y : Occ) → Direct both (0 ∷ []) y (occ 0 (spot 1 0)) → y ≡ occ 0 (spot 0 0)
@@ -115,8 +115,8 @@ two_listed = record {
 -- only label 0 is a node, with chart 0
 node_zero : (l c : ℕ) → m.chart l ≡ Some c → (l ≡ 0) × (c ≡ 0)
 node_zero zero c h = (refl, cc)
-node_zero (suc zero) c h = absurd (let z : ◌≡◌ {A = ℕ} 0 1 = cc in let y : ⊥ = omega arith in y)
-node_zero (suc (suc l)) c h = absurd (let z : ◌≡◌ {A = ℕ} 0 1 = cc in let y : ⊥ = omega arith in y)
+node_zero (suc zero) c h = cc
+node_zero (suc (suc l)) c h = cc
 
 leads_zero : (x i : ℕ) → LeadsList m x i → i ≡ 0
 leads_zero x i (l, c, h, e, (y, f, s)) = sym s ∙ first_zero y (subst (λ z. First m.drawn (z ∷ []) y) (node_zero l c e).1 f)

@@ -1,8 +1,9 @@
 -- A document of two instances: P sends the message m to Q, again and again, until the procedure ends.
 use Rattle.std.specs.Prelude.{[], ◌∷◌, codes}
-use Rattle.msc.specs.Doc.{Doc, final, node}
+use Rattle.msc.specs.Doc.{Doc}
 use Rattle.msc.specs.Standard.{standard_words}
 use Rattle.msc.specs.declared.event.Event.TheVariants.{Out, In}
+use Rattle.msc.specs.declared.label.Body.TheVariants.{End as final, Node as node}
 
 abbrev pub ping : Doc
 ping = record {

@@ -1,5 +1,5 @@
 -- The marked labels are those that lead to an end.
-use Rattle.std.proofs.Common.{◌≡◌, ℕ, zero, suc, ◌+◌, ◌<◌, ◌≤◌, Bool, true, false, cond, not, List, [], ◌∷◌, length, get_or, set, replicate, is_some, Some, None, count_by, Option, sym, refl, ap, ◌∙◌, subst, inl, ⊎_elim, arith, length-set, get_or-set_other}
+use Rattle.std.proofs.Common.{◌≡◌, ℕ, zero, suc, ◌+◌, ◌<◌, ◌≤◌, Bool, true, false, cond, not, List, [], ◌∷◌, length, get_or, set, replicate, is_some, Some, None, count_by, Option, sym, refl, ap, ◌∙◌, subst, inl, inr, ⊎_elim, arith, length-set, get_or-set_other}
 use lib.ListN.{get_or-replicate}
 use Rattle.std.proofs.lemmas.List.{get_or_past}
 use Rattle.std.proofs.lemmas.List.Sums.{sum_by-set, sum_by-cons, count_by-le-length}
@@ -7,10 +7,9 @@ use Rattle.std.proofs.lemmas.Bool.{cases_lt, cases_eq, cases_Bool, both_ways, an
 use Rattle.msc.specs.Listing.{Mem}
 use Rattle.msc.specs.Meaning.{Meaning}
 use Rattle.msc.specs.Choice.{IsEnd, LeadsToEnd, ends, goes}
-use Rattle.order.specs.Scans.{first}
-use Rattle.judge.specs.Checks.{leads_on, unmarked, next_mark, marked}
-use Rattle.order.proofs.Scanned.{lowest_none, lowest_some, first_none, first_some, repeat_keeps, repeat_stuck}
-use Rattle.order.proofs.Members.{mem_right}
+use Rattle.std.specs.List.{list_any}
+use Rattle.judge.specs.Checks.{spots, leads_on, unmarked, next_mark, marked}
+use Rattle.order.proofs.Scanned.{range_has, find_none, find_lowest, repeat_keeps, repeat_stuck}
 use Rattle.order.proofs.Limits.{Limits}
 
 pub some_of : (o : Option ℕ) → is_some o ≡ true → (x : ℕ) × (o ≡ Some x)
@@ -20,6 +19,16 @@ some_of (Some x) h = (x, refl)
 pub none_of : (o : Option ℕ) → is_some o ≡ false → o ≡ None
 none_of None h = refl
 none_of (Some x) h = absurd (both_ways true h refl)
+
+-- some one of a list passes a test, or none does
+some_any : (f : ℕ → Bool) (xs : List ℕ) → list_any f xs ≡ true → (x : ℕ) × Mem x xs × (f x ≡ true)
+some_any f [] h = absurd (both_ways false refl h)
+some_any f (y ∷ xs) h = ⊎_elim (λ t. (y, inl refl, t)) (λ t. let r = some_any f xs t in (r.0, inr r.1, r.2)) (or_cases (f y) (list_any f xs) h)
+
+any_some : (f : ℕ → Bool) (xs : List ℕ) (x : ℕ) → Mem x xs → f x ≡ true → list_any f xs ≡ true
+any_some f [] x m t = absurd m
+any_some f (y ∷ xs) x (inl e) t = or_left (f y) (list_any f xs) (ap f (sym e) ∙ t)
+any_some f (y ∷ xs) x (inr m) t = or_right (f y) (list_any f xs) (any_some f xs x m t)
 
 -- where one is false, not all are counted
 count_less : (xs : List Bool) (i : ℕ) → i < length xs → get_or xs i false ≡ false → count_by (λ b. b) xs < length xs
@@ -53,15 +62,10 @@ module _ (m : Meaning) (w : Limits m) where
 
   next_of : (marks : List Bool) (x : ℕ) → Right marks → next_mark m marks ≡ Some x → Next marks x
   next_of marks x u h =
-      let r = lowest_some (unmarked m marks) 0 65 x h in
-      let b = and_parts (not (get_or marks x false)) (is_some (first (leads_on m marks) (m.list x))) r.here in
-      let s = some_of (first (leads_on m marks) (m.list x)) b.1 in
-      let t = first_some (leads_on m marks) (m.list x) s.0 s.1 in
-      record {
-        below = omega (arith, r.to);
-        fresh = not-true (get_or marks x false) b.0;
-        leads = leads_on_lem marks u x s.0 (subst (Mem s.0) (sym t.split) (mem_right s.0 t.before (s.0 ∷ t.behind) (inl refl))) t.here;
-      }
+      let r = find_lowest (unmarked m marks) 0 65 x h in
+      let b = and_parts (not (get_or marks x false)) (list_any (leads_on m marks) (m.list x)) r.here in
+      let s = some_any (leads_on m marks) (m.list x) b.1 in
+      record { below = omega (arith, r.to); fresh = not-true (get_or marks x false) b.0; leads = leads_on_lem marks u x s.0 s.1 s.2 }
 
   right_more : (marks : List Bool) (x : ℕ) → Right marks → next_mark m marks ≡ Some x → Right (set marks x true)
   right_more marks x u h = let t = next_of marks x u h in
@@ -110,8 +114,8 @@ module _ (m : Meaning) (w : Limits m) where
   closed : (x l : ℕ) → x < 65 → Mem l (m.list x) → leads_on m (marked m) l ≡ true → get_or (marked m) x false ≡ true
   closed x l b i h = ⊎_elim (λ (t : get_or (marked m) x false ≡ true). t)
       (λ (t : get_or (marked m) x false ≡ false). ⊎_elim (λ n. not-false (get_or (marked m) x false) n)
-      (λ n. absurd (both_ways (leads_on m (marked m) l) (first_none (leads_on m (marked m)) (m.list x) (none_of (first (leads_on m (marked m)) (m.list x)) n) l i) h))
-      (and_cases (not (get_or (marked m) x false)) (is_some (first (leads_on m (marked m)) (m.list x))) (lowest_none (unmarked m (marked m)) 0 65 stuck x (omega arith) (omega arith))))
+      (λ n. absurd (both_ways (list_any (leads_on m (marked m)) (m.list x)) n (any_some (leads_on m (marked m)) (m.list x) l i h)))
+      (and_cases (not (get_or (marked m) x false)) (list_any (leads_on m (marked m)) (m.list x)) (find_none (unmarked m (marked m)) spots stuck x (range_has 0 65 x (omega arith) (omega arith)))))
       (cases_Bool (get_or (marked m) x false))
 
   pub to_end_is : (x : ℕ) → LeadsToEnd m x → x < 65 → get_or (marked m) x false ≡ true

@@ -1,4 +1,4 @@
-pub mod Ways
+pub mod Made
 pub mod Ends
 pub mod Lists
 pub mod Verdicts

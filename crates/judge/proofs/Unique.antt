@@ -1,5 +1,5 @@
 -- A document breaks one rule first, at one spot.
-use Rattle.std.proofs.Common.{◌≡◌, ℕ, ◌<◌, ◌⊎◌, List, [], ◌∷◌, ◌++◌, Some, None, sym, refl, ap, ◌∙◌, subst, inl, inr, ⊎_elim, arith}
+use Rattle.std.proofs.Common.{◌≡◌, ℕ, ◌<◌, ◌⊎◌, List, [], ◌∷◌, ◌++◌, sym, refl, ap, ◌∙◌, subst, inl, inr, ⊎_elim}
 use Rattle.std.proofs.lemmas.Bool.{cases_order}
 use Rattle.msc.specs.Listing.{Mem}
 use Rattle.msc.specs.Meaning.{Meaning}
@@ -49,7 +49,7 @@ stage Covers Holds f = record { All = Everywhere Covers Holds; Low = Lowest Cove
 
 module _ (m : Meaning) where
   end_not_node : (l : ℕ) → IsEnd m l → IsNode m l → ⊥
-  end_not_node l e n = let z : None ≡ Some n.0 = sym e ∙ n.1 in let y : ◌≡◌ {A = ℕ} 0 1 = cc in omega arith
+  end_not_node l e n = cc (sym e ∙ n.1)
 
   -- the first end label of a list
   one_end : (a a' b b' : List ℕ) (x y : ℕ) → a ++ x ∷ b ≡ a' ++ y ∷ b' → IsEnd m x → IsEnd m y → ((k : ℕ) → Mem k a → IsNode m k) → ((k : ℕ) → Mem k a' → IsNode m k) → x ≡ y

@@ -1,29 +1,33 @@
 -- How each rule is checked: a definition for each function of the code.
-use Rattle.std.specs.Prelude.{ℕ, zero, suc, Bool, true, false, not, ◌&&◌, ◌||◌, List, [], ◌∷◌, ◌++◌, length, replicate, is_some, Some, None, Option, ◌==◌, nat_lt, slice_index_or, slice_set}
+use Rattle.std.specs.Prelude.{ℕ, Bool, true, false, not, ◌&&◌, ◌||◌, List, length, replicate, fold, is_some, Option, ◌==◌, nat_lt, slice_index_or, slice_set}
+use Rattle.std.specs.List.{filter_map, find, list_any, range_with_len}
 use Rattle.msc.specs.Meaning.{Meaning, start, part}
-use Rattle.order.specs.Charts.{is_matched, is_listable, gathered, starters, is_one, is_several, leader_of}
-use Rattle.order.specs.Scans.{lowest, first, repeat}
+use Rattle.order.specs.Charts.{gathered, starters, is_one, is_several}
+use Rattle.order.specs.Scans.{repeat}
 use Rattle.order.specs.declared.leaders.Leaders.{Leaders}
 use Rattle.order.specs.declared.leaders.Leaders.TheVariants.{Nobody, One, Several}
-use Rattle.judge.specs.declared.rule.Rule.{Rule}
-use Rattle.judge.specs.declared.rule.Rule.TheVariants as rule
+
+-- what rules are tried at: charts, or labels and the start list
+abbrev pub spots : List ℕ
+spots = range_with_len 0 65
 
 module _ (m : Meaning) where
-  abbrev pub is_end : ℕ → Bool
-  is_end l = not (is_some (m.chart l))
+  -- what rules cover: charts, nodes, the lists of nodes and the start list
+  abbrev pub is_chart : ℕ → Bool
+  is_chart c = nat_lt c m.charts
 
-  -- those who lead the chart of a label
-  abbrev pub chart_starters : Option ℕ → List ℕ
-  chart_starters None = []
-  chart_starters (Some c) = starters (m.drawn c) 0 8
+  abbrev pub is_node : ℕ → Bool
+  is_node l = is_some (m.chart l)
+
+  abbrev pub is_list : ℕ → Bool
+  is_list x = is_node x || x == start
+
+  abbrev pub is_end : ℕ → Bool
+  is_end l = not (is_node l)
 
   -- those who lead the charts of a list's nodes
-  abbrev pub list_starters : List ℕ → List ℕ
-  list_starters [] = []
-  list_starters (l ∷ ls) = chart_starters (m.chart l) ++ list_starters ls
-
   abbrev pub list_leaders : ℕ → Leaders
-  list_leaders x = gathered Nobody (list_starters (m.list x))
+  list_leaders x = fold (λ a c. gathered a (starters (m.drawn c))) Nobody (filter_map m.chart (m.list x))
 
   abbrev pub is_present : ℕ → Leaders → Bool
   is_present l Nobody = true
@@ -35,44 +39,32 @@ module _ (m : Meaning) where
   leads_on marks l = is_end l || slice_index_or marks l false
 
   abbrev pub unmarked : List Bool → ℕ → Bool
-  unmarked marks x = not (slice_index_or marks x false) && is_some (first (leads_on marks) (m.list x))
+  unmarked marks x = not (slice_index_or marks x false) && list_any (leads_on marks) (m.list x)
 
   abbrev pub next_mark : List Bool → Option ℕ
-  next_mark marks = lowest (unmarked marks) 0 65
+  next_mark marks = find (unmarked marks) spots
 
   -- 64 marks are enough: of 64 labels and the start list, one at least is an end label
   unfoldable pub marked : List Bool
   marked = repeat next_mark (λ marks x. slice_set marks x true) 64 (replicate 65 false)
 
-  -- where a rule applies
-  abbrev pub covers : Rule → ℕ → Bool
-  covers rule.Matched x = nat_lt x m.charts
-  covers rule.Listable x = nat_lt x m.charts
-  covers rule.OneFirst x = nat_lt x m.charts
-  covers rule.OneLeader x = is_some (m.chart x) || x == start
-  covers rule.TakesPart x = is_some (m.chart x)
-  covers rule.LeadsToEnd x = is_some (m.chart x) || x == start
+  -- whether a rule holds
+  abbrev pub is_one_first : ℕ → Bool
+  is_one_first c = is_one (gathered Nobody (starters (m.drawn c)))
 
-  abbrev pub holds : Rule → ℕ → Bool
-  holds rule.Matched x = is_matched (m.drawn x)
-  holds rule.Listable x = is_listable (m.drawn x)
-  holds rule.OneFirst x = is_one (gathered Nobody (starters (m.drawn x) 0 8))
-  holds rule.OneLeader x = not (is_several (list_leaders x))
-  holds rule.TakesPart x = is_present x (list_leaders x)
-  holds rule.LeadsToEnd x = slice_index_or marked x false
+  abbrev pub has_one_leader : ℕ → Bool
+  has_one_leader x = not (is_several (list_leaders x))
 
-  abbrev pub breaks : Rule → ℕ → Bool
-  breaks r x = covers r x && not (holds r x)
+  abbrev pub leader_takes_part : ℕ → Bool
+  leader_takes_part l = is_present l (list_leaders l)
 
-  -- the lowest chart or label that breaks a rule
-  abbrev pub broken : Rule → Option ℕ
-  broken r = lowest (breaks r) 0 65
+  abbrev pub leads_to_end : ℕ → Bool
+  leads_to_end x = slice_index_or marked x false
 
   -- the first end label of the start list
   abbrev pub end_at_start : Option ℕ
-  end_at_start = first is_end (m.list start)
+  end_at_start = find is_end (m.list start)
 
-  -- the leaders of the n lists from k on
-  unfoldable pub leaders_from : ℕ → ℕ → List (Option ℕ)
-  leaders_from k zero = []
-  leaders_from k (suc n) = leader_of (list_leaders k) ∷ leaders_from (suc k) n
+-- the lowest spot that a rule covers and at which it does not hold
+unfoldable pub broken : (ℕ → Bool) → (ℕ → Bool) → Option ℕ
+broken covers holds = find (λ x. covers x && not (holds x)) spots

@@ -1,7 +1,8 @@
 -- What holds of the judge's rules.
+use Rattle.msc.specs.declared.label.Body.TheVariants.{End as final, Node as node}
 use Rattle.std.specs.Prelude.{◌≡◌, ℕ, List, [], ◌∷◌, codes}
 use Rattle.msc.specs.BuiltIn.{built_in}
-use Rattle.msc.specs.Doc.{Doc, final, node}
+use Rattle.msc.specs.Doc.{Doc}
 use Rattle.msc.specs.Meaning.{Meaning, meaning_of}
 use Rattle.msc.specs.Standard.{standard_words}
 use Rattle.msc.specs.declared.event.Event.{Event}

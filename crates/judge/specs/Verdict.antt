@@ -1,41 +1,49 @@
 -- The judge's answer: the first rule that is broken, if any.
-use Rattle.std.specs.Prelude.{ℕ, Bool, true, false, List, Some, None, Option}
+use Rattle.std.specs.Prelude.{ℕ, Bool, map, Option, Result, Ok, Err, MatchResult, List}
+use Rattle.std.specs.Option.{option_map, option_map_or}
+use Rattle.std.specs.Result.{is_ok, result_and}
 use Rattle.msc.specs.Meaning.{Meaning}
-use Rattle.judge.specs.Checks.{broken, end_at_start, leaders_from}
+use Rattle.order.specs.Charts.{is_matched, is_listable, leader_of}
+use Rattle.judge.specs.Checks.{spots, is_chart, is_node, is_list, is_one_first, has_one_leader, leader_takes_part, leads_to_end, broken, end_at_start, list_leaders}
 use Rattle.judge.specs.Rules.{Fair, Breaks}
 use Rattle.judge.specs.declared.refusal.Refusal.{Refusal}
 use Rattle.judge.specs.declared.refusal.Refusal.TheVariants.{Unmatched, Cyclic, NotOneFirst, EndAtStart, TwoLeaders, LeaderAbsent, NoEnd}
-use Rattle.judge.specs.declared.rule.Rule.TheVariants as rule
+
+-- fails where there is a refusal
+abbrev pub refused : Option Refusal → Result (Unit {0}) Refusal
+refused o = option_map_or Err o (Ok tt)
 
 -- a refusal for what was found, or what follows where nothing was
-abbrev pub or_else : (ℕ → Refusal) → Option ℕ → Option Refusal → Option Refusal
-or_else f None rest = rest
-or_else f (Some x) rest = Some (f x)
-
-abbrev pub is_none : Option Refusal → Bool
-is_none None = true
-is_none (Some e) = false
+abbrev pub or_else : (ℕ → Refusal) → Option ℕ → Result (Unit {0}) Refusal → Result (Unit {0}) Refusal
+or_else f o rest = result_and (refused (option_map f o)) rest
 
 module _ (m : Meaning) where
   -- the rules for charts
-  abbrev pub chart_rules : Option Refusal → Option Refusal
-  chart_rules rest = or_else Unmatched (broken m rule.Matched) (or_else Cyclic (broken m rule.Listable) (or_else NotOneFirst (broken m rule.OneFirst) rest))
+  abbrev pub chart_rules : Result (Unit {0}) Refusal → Result (Unit {0}) Refusal
+  chart_rules rest =
+      or_else Unmatched (broken (is_chart m) (λ c. is_matched (m.drawn c)))
+      (or_else Cyclic (broken (is_chart m) (λ c. is_listable (m.drawn c)))
+      (or_else NotOneFirst (broken (is_chart m) (is_one_first m)) rest))
 
   -- the rules for lists
-  abbrev pub list_rules : Option Refusal
-  list_rules = or_else EndAtStart (end_at_start m) (or_else TwoLeaders (broken m rule.OneLeader) (or_else LeaderAbsent (broken m rule.TakesPart) (or_else NoEnd (broken m rule.LeadsToEnd) None)))
+  abbrev pub list_rules : Result (Unit {0}) Refusal
+  list_rules =
+      or_else EndAtStart (end_at_start m)
+      (or_else TwoLeaders (broken (is_list m) (has_one_leader m))
+      (or_else LeaderAbsent (broken (is_node m) (leader_takes_part m))
+      (or_else NoEnd (broken (is_list m) (leads_to_end m)) (Ok tt))))
 
-  unfoldable pub refusal_of : Option Refusal
-  refusal_of = chart_rules list_rules
+  unfoldable pub verdict : Result (Unit {0}) Refusal
+  verdict = chart_rules list_rules
 
   -- whether every rule holds
   abbrev pub is_fair : Bool
-  is_fair = is_none refusal_of
+  is_fair = is_ok verdict
 
+  -- the leader of each list
   abbrev pub leaders_of : List (Option ℕ)
-  leaders_of = leaders_from m 0 65
+  leaders_of = map (λ x. leader_of (list_leaders m x)) spots
 
   -- what an answer says of the document
-  abbrev pub Said : Option Refusal → Type 0
-  Said None = Fair m
-  Said (Some e) = Breaks m e
+  abbrev pub Said : Result (Unit {0}) Refusal → Type 0
+  Said r = MatchResult r (λ _. Fair m) (Breaks m)

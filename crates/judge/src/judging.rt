@@ -1,64 +1,39 @@
 // The judge.
 ghost use Rattle.std.specs.Prelude.{◌≡◌};
 ghost use Rattle.order.specs.Meant.{meant};
-ghost use Rattle.order.specs.Charts.{leader_of};
-ghost use Rattle.judge.specs.Verdict.{refusal_of, leaders_of};
+ghost use Rattle.judge.specs.Verdict.{refused, verdict, leaders_of};
 
 use crate::leading::list_leaders;
-use crate::marking::marked;
 use crate::refusal::Refusal;
-use crate::rule::Rule;
-use crate::trial::{broken, end_at_start};
+use crate::trial::{
+    cyclic, end_at_start, leader_absent, no_end, not_one_first, two_leaders, unmatched,
+};
 use msc::document::Document;
-use order::leaders::Leaders;
 
-// The first rule that is broken, and where.
-pub fn refusal_of(document: &Document) -> Option<Refusal>
-    ensures { result ≡ refusal_of (meant document.now) }
+// Fails where there is a refusal.
+fn refused(refusal: Option<Refusal>) -> Result<(), Refusal>
+    ensures { result ≡ refused refusal }
 {
-    let marks = marked(document);
-    if let Some(c) = broken(document, &marks, Rule::Matched) {
-        return Some(Refusal::Unmatched(c));
-    }
-    if let Some(c) = broken(document, &marks, Rule::Listable) {
-        return Some(Refusal::Cyclic(c));
-    }
-    if let Some(c) = broken(document, &marks, Rule::OneFirst) {
-        return Some(Refusal::NotOneFirst(c));
-    }
-    if let Some(l) = end_at_start(document) {
-        return Some(Refusal::EndAtStart(l));
-    }
-    if let Some(x) = broken(document, &marks, Rule::OneLeader) {
-        return Some(Refusal::TwoLeaders(x));
-    }
-    if let Some(l) = broken(document, &marks, Rule::TakesPart) {
-        return Some(Refusal::LeaderAbsent(l));
-    }
-    if let Some(x) = broken(document, &marks, Rule::LeadsToEnd) {
-        return Some(Refusal::NoEnd(x));
-    }
-    None
+    refusal.map_or(Ok(()), Err)
 }
 
-// The leader, if there is one alone.
-fn leader_of(leaders: Leaders) -> Option<u8>
-    ensures { result ≡ leader_of leaders }
+// Fails with the first rule that is broken, and where: rule by rule, the lowest chart or label that breaks it.
+#[tactic(auto, unfolding(crate::specs::Verdict::verdict))]
+pub fn verdict(document: &Document) -> Result<(), Refusal>
+    ensures { result ≡ verdict (meant document.now) }
 {
-    match leaders {
-        Leaders::Nobody => None,
-        Leaders::One(instance) => Some(instance),
-        Leaders::Several => None,
-    }
+    refused(unmatched(document).map(Refusal::Unmatched))?;
+    refused(cyclic(document).map(Refusal::Cyclic))?;
+    refused(not_one_first(document).map(Refusal::NotOneFirst))?;
+    refused(end_at_start(document).map(Refusal::EndAtStart))?;
+    refused(two_leaders(document).map(Refusal::TwoLeaders))?;
+    refused(leader_absent(document).map(Refusal::LeaderAbsent))?;
+    refused(no_end(document).map(Refusal::NoEnd))
 }
 
 // The leader of each list.
 pub fn leaders_of(document: &Document) -> [Option<u8>; 65]
     ensures { result ≡ leaders_of (meant document.now) }
 {
-    let mut leaders = [None; 65];
-    for x in 0..65u8 {
-        leaders[x as usize] = leader_of(list_leaders(document, x));
-    }
-    leaders
+    std::array::from_fn(|x| list_leaders(document, x as u8).alone())
 }

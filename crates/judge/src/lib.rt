@@ -9,5 +9,4 @@ mod marking;
 pub mod numbers;
 pub mod refusal;
 pub mod results;
-mod rule;
 mod trial;

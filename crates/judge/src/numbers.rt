@@ -1,4 +1,4 @@
-// The numbers of refusals, and what they name.
+// The numbers of refusals, and what they name: one definition gives them, by a rule of the project.
 ghost use Rattle.std.specs.Prelude.{◌≡◌};
 ghost use Rattle.judge.specs.Rules.{number_of, value_of};
 
@@ -23,13 +23,12 @@ impl Refusal {
         ensures { result ≡ value_of self }
     {
         match self {
-            Refusal::Unmatched(chart) => chart,
-            Refusal::Cyclic(chart) => chart,
-            Refusal::NotOneFirst(chart) => chart,
-            Refusal::EndAtStart(label) => label,
-            Refusal::TwoLeaders(label) => label,
-            Refusal::LeaderAbsent(label) => label,
-            Refusal::NoEnd(label) => label,
+            Refusal::Unmatched(chart) | Refusal::Cyclic(chart) | Refusal::NotOneFirst(chart) =>
+                chart,
+            Refusal::EndAtStart(label)
+            | Refusal::TwoLeaders(label)
+            | Refusal::LeaderAbsent(label)
+            | Refusal::NoEnd(label) => label,
         }
     }
 }

@@ -1,3 +1,1 @@
-mod Scan
 mod Table
-mod Next

@@ -2,7 +2,7 @@
 use Rattle.std.specs.Prelude.{ℕ, ◌+◌, Bool, true, false, cond, List, [], ◌∷◌, take, drop, Some, None, Option, ◌==◌, nat_lt, slice_index_or}
 use Rattle.std.specs.List.{prefix_len}
 use Rattle.msc.specs.Spelling.{wordy, place}
-use Rattle.msc.specs.Tokens.{Tok, name, word, sign, end, rank, sign_byte}
+use Rattle.msc.specs.Tokens.{Tok, name, word, sign, end, keywords, rank, sign_byte}
 use Rattle.msc.specs.declared.symbol.Symbol.{Symbol}
 use Rattle.msc.specs.declared.symbol.Symbol.TheVariants as symbol
 use Rattle.msc.specs.declared.words.Keyword.{Keyword}
@@ -12,9 +12,6 @@ use Rattle.lexis.specs.Steps.{Step, got, bad, and_then}
 use Rattle.lexis.specs.declared.class.Class.{Class}
 use Rattle.lexis.specs.declared.class.Class.TheVariants.{Separator, Letter, Inner, Open, Close, Colon, Semi, Illegal}
 use Rattle.lexis.specs.declared.refusal.Refusal.TheVariants as refusal
-
-abbrev pub keywords : List Keyword
-keywords = keyword.Mscdocument ∷ keyword.Endmscdocument ∷ keyword.Inst ∷ keyword.Msc ∷ keyword.Endmsc ∷ keyword.Instance ∷ keyword.Endinstance ∷ keyword.Out ∷ keyword.In ∷ keyword.To ∷ keyword.From ∷ keyword.Action ∷ keyword.Expr ∷ keyword.Seq ∷ keyword.Alt ∷ keyword.End ∷ []
 
 -- a word is the keyword at its place in the table, or a name
 abbrev pub at_place : Option ℕ → List ℕ → Tok

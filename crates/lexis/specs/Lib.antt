@@ -1,3 +1,4 @@
+pub mod Spots
 pub mod Refusals
 pub mod Classes
 pub mod Steps

@@ -1,22 +1,19 @@
 -- What the calls of a reader say, by the place where it stands and the rest of its text.
-use Rattle.std.specs.Prelude.{ℕ, ◌+◌, ◌≤◌, Bool, true, false, cond, List, length, drop, Some, None, Ok, Err, Option, Result, ◌==◌}
-use Rattle.msc.specs.Spelling.{spellings_of}
+use Rattle.std.specs.Prelude.{◌≡◌, ℕ, ◌+◌, ◌≤◌, Bool, true, false, cond, List, length, drop, Some, None, Ok, Err, Option, Result, ◌==◌}
 use Rattle.msc.specs.Tokens.{Tok, name, word, sign, end}
 use Rattle.msc.specs.declared.symbol.Symbol.{Symbol}
 use Rattle.msc.specs.declared.symbol.Symbol.TheVariants.{Open, Close, Colon, Semi}
-use Rattle.msc.specs.declared.words.Words.{Words}
+use Rattle.std.specs.List.{prefix_len}
+use Rattle.lexis.specs.Classes.{separator}
+use Rattle.lexis.specs.Lexing.{next_of}
 use Rattle.lexis.specs.Steps.{Step, got, bad}
-use Rattle.lexis.specs.declared.reader.Reader.{Reader}
+use Rattle.lexis.specs.Spots.{Spot}
 use Rattle.lexis.specs.declared.refusal.Refusal.{Refusal}
 use Rattle.lexis.specs.declared.refusal.Refusal.TheVariants.{Illegal}
 use Rattle.lexis.specs.declared.class.Class.{Class}
 use Rattle.lexis.specs.declared.class.Class.TheVariants as class
 use Rattle.lexis.specs.declared.token.Token.{Token}
 use Rattle.lexis.specs.declared.token.Token.TheVariants as token
-
--- the spellings of a table of reserved words
-abbrev pub words_of : Words → List (List ℕ)
-words_of ws = spellings_of ws.spellings
 
 abbrev pub meant : Token → Tok
 meant (token.Name w) = name w.now
@@ -25,13 +22,31 @@ meant (token.Sign x) = sign x
 meant token.End = end
 
 -- what a call says, with the reader that it leaves behind
-abbrev pub step_of : {X A : Type 0} → (X → A) → Result X Refusal → Reader → Step A
-step_of f (Ok x) after = got (f x) after.at (drop after.at after.text.now)
+abbrev pub step_of : {X A : Type 0} → (X → A) → Result X Refusal → Spot → Step A
+step_of f (Ok x) after = got (f x) after.at after.rest
 step_of f (Err e) after = bad e
 
--- a step at the place where a reader stands
-abbrev pub from : {A : Type 0} → (ℕ → List ℕ → Step A) → Reader → Step A
-from f r = f r.at (drop r.at r.text.now)
+-- a step at the place where a reader stands, under its words
+abbrev pub from : {A : Type 0} → (List (List ℕ) → ℕ → List ℕ → Step A) → Spot → Step A
+from f r = f r.words r.at r.rest
+
+-- what a call reads: it comes to what the step f says (g of its answer), and leaves the reader there, under the same words
+pub record Reads {X A : Type 0} (f : List (List ℕ) → ℕ → List ℕ → Step A) (g : X → A) (result : Result X Refusal) (before after : Spot) : Type 0 where
+  pub says : step_of g result after ≡ from f before
+  pub words : after.words ≡ before.words
+
+-- the same behind the separators, where a token begins
+abbrev pub begun : Spot → Spot
+begun r = let n = prefix_len separator r.rest in record { words = r.words; at = r.at + n; rest = drop n r.rest; place = r.at + n }
+
+-- a reader behind the token that a step comes to; where there is none it stays
+abbrev pub moved : Step (Tok × ℕ) → Spot → Spot
+moved (got t p s) r = record { words = r.words; at = p; rest = s; place = r.place }
+moved (bad e) r = r
+
+-- a reader behind its next token, or, where none begins, at the byte at fault
+abbrev pub passed : Spot → Spot
+passed r = moved (from next_of r) (begun r)
 
 -- the symbol that a byte is
 abbrev pub sign_of : ℕ → Option Symbol

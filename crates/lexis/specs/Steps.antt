@@ -1,5 +1,7 @@
 -- One step of a reader.
-use Rattle.std.specs.Prelude.{ℕ, zero, suc, Bool, cond, List}
+use Rattle.std.specs.Prelude.{ℕ, zero, suc, Bool, cond, List, is_some}
+use Rattle.std.specs.declared.ops.ControlFlow.{ControlFlow}
+use Rattle.std.specs.ControlFlow.{break_value}
 use Rattle.lexis.specs.declared.refusal.Refusal.{Refusal}
 use Rattle.lexis.specs.declared.refusal.Refusal.TheVariants.{Limit}
 
@@ -17,3 +19,7 @@ and_then (bad e) k = bad e
 abbrev pub repeat : {A : Type 0} → (A → ℕ → List ℕ → Step (A × Bool)) → ℕ → A → ℕ → List ℕ → Step A
 repeat f zero a p s = bad (Limit p)
 repeat f (suc n) a p s = and_then (f a p s) λ r p s. cond r.1 (got r.0 p s) (repeat f n r.0 p s)
+
+-- whether a turn is the last
+abbrev pub is_last : {B C : Type 0} → ControlFlow B C → Bool
+is_last f = is_some (break_value f)

@@ -10,16 +10,7 @@ use msc::symbol::Symbol;
 fn separates(c: Class) -> bool
     ensures { result ≡ is_separator c }
 {
-    match c {
-        Class::Separator => true,
-        Class::Letter
-        | Class::Inner
-        | Class::Open
-        | Class::Close
-        | Class::Colon
-        | Class::Semi
-        | Class::Illegal => false,
-    }
+    matches!(c, Class::Separator)
 }
 
 pub fn is_separator(b: u8) -> bool
@@ -31,15 +22,7 @@ pub fn is_separator(b: u8) -> bool
 fn in_words(c: Class) -> bool
     ensures { result ≡ is_wordy c }
 {
-    match c {
-        Class::Letter | Class::Inner => true,
-        Class::Separator
-        | Class::Open
-        | Class::Close
-        | Class::Colon
-        | Class::Semi
-        | Class::Illegal => false,
-    }
+    matches!(c, Class::Letter | Class::Inner)
 }
 
 pub fn is_wordy(b: u8) -> bool
@@ -48,7 +31,7 @@ pub fn is_wordy(b: u8) -> bool
     in_words(class_of(b))
 }
 
-// The symbol that a byte is, if it is one.
+// The symbol that a byte is, if it is one: by its character, which is a rule of the project.
 pub fn symbol_of(b: u8) -> Option<Symbol>
     ensures { result ≡ sign_of b }
 {

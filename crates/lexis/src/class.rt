@@ -31,6 +31,7 @@ const S: Class = Class::Semi;
 
 const B: Class = Class::Illegal;
 
+// A table of all 256 bytes, by a rule of the project; what it says is proved once over all entries.
 static CLASSES: [Class; 256] = [
     B, B, B, B, B, B, B, B, B, W, W, B, B, W, B, B, B, B, B, B, B, B, B, B, B, B, B, B, B, B, B, B,
     W, B, B, B, B, B, B, B, O, C, B, B, B, B, B, B, I, I, I, I, I, I, I, I, I, I, N, S, B, B, B, B,

@@ -3,7 +3,6 @@
 
 pub mod bytes;
 pub mod class;
-pub mod cursor;
 pub mod expect;
 pub mod keywords;
 pub mod reader;

@@ -1,4 +1,4 @@
-// The number and the value of a refusal.
+// The number and the value of a refusal, which the program prints: one definition gives them, by a rule of the project.
 ghost use Rattle.std.specs.Prelude.{◌≡◌};
 ghost use Rattle.lexis.specs.Refusals.{number_of, value_of};
 
@@ -26,12 +26,12 @@ impl Refusal {
     {
         match self {
             Refusal::TooLong => 32768,
-            Refusal::Illegal(p) => p,
-            Refusal::Unexpected(p) => p,
-            Refusal::Limit(p) => p,
-            Refusal::Twice(p) => p,
-            Refusal::Undeclared(p) => p,
-            Refusal::Itself(p) => p,
+            Refusal::Illegal(p)
+            | Refusal::Unexpected(p)
+            | Refusal::Limit(p)
+            | Refusal::Twice(p)
+            | Refusal::Undeclared(p)
+            | Refusal::Itself(p) => p,
             Refusal::Short(n) => n,
         }
     }

@@ -1,2 +1,3 @@
-mod Looks
+pub mod Looks
 pub mod Places
+mod Fills

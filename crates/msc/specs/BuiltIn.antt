@@ -1,6 +1,7 @@
 -- The built-in document: one instance, one chart with one action, a start node and an end label.
+use Rattle.msc.specs.declared.label.Body.TheVariants.{End as final, Node as node}
 use Rattle.std.specs.Prelude.{[], ◌∷◌, codes}
-use Rattle.msc.specs.Doc.{Doc, final, node}
+use Rattle.msc.specs.Doc.{Doc}
 use Rattle.msc.specs.Standard.{standard_words}
 use Rattle.msc.specs.declared.event.Event.TheVariants.{Action}
 

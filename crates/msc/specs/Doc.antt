@@ -1,6 +1,7 @@
 -- What a document is: instances, charts, and a graph of labels.
 use Rattle.std.specs.Prelude.{ℕ, suc, List, [], ◌∷◌}
 use Rattle.std.specs.List.{flat_map}
+use Rattle.msc.specs.declared.label.Label.{Label}
 use Rattle.msc.specs.declared.event.Event.{Event}
 use Rattle.msc.specs.declared.event.Event.TheVariants.{Out, In, Action}
 
@@ -8,15 +9,6 @@ use Rattle.msc.specs.declared.event.Event.TheVariants.{Out, In, Action}
 pub record Chart : Type 0 where
   pub name : List ℕ
   pub parts : List (List Event)
-
--- what a label stands for: the end, or a node, which is a chart's number and the list of labels that may follow
-pub data Body : Type 0 where
-  final : Body
-  node : ℕ → List ℕ → Body
-
-pub record Label : Type 0 where
-  pub name : List ℕ
-  pub body : Body
 
 -- each kind is numbered from 0 in order of declaration, messages and actions by first appearance
 pub record Doc : Type 0 where

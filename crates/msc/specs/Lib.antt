@@ -1,4 +1,5 @@
-pub mod Rows
+pub mod Padded
+pub mod Shorts
 pub mod Spelling
 pub mod Tokens
 pub mod Doc

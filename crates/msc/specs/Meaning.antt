@@ -1,6 +1,9 @@
 -- The meaning of a document: what judges, paths and players speak of.
+use Rattle.msc.specs.declared.label.Body.{Body}
+use Rattle.msc.specs.declared.label.Body.TheVariants.{End as final, Node as node}
+use Rattle.msc.specs.declared.label.Label.{Label}
 use Rattle.std.specs.Prelude.{ℕ, cond, List, [], length, get_or, Some, None, Option, ◌==◌, slice_index_or}
-use Rattle.msc.specs.Doc.{Doc, Chart, Body, final, node, Label}
+use Rattle.msc.specs.Doc.{Doc, Chart}
 use Rattle.msc.specs.declared.event.Event.{Event}
 
 pub record Meaning : Type 0 where

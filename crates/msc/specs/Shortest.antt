@@ -1,7 +1,10 @@
 -- The shortest text of a document: its forms in order, empty blocks left out, one space where a word follows a word.
+use Rattle.msc.specs.declared.label.Body.{Body}
+use Rattle.msc.specs.declared.label.Body.TheVariants.{End as final, Node as node}
+use Rattle.msc.specs.declared.label.Label.{Label}
 use Rattle.std.specs.Prelude.{ℕ, suc, List, [], ◌∷◌, ◌++◌, slice_index_or}
 use Rattle.std.specs.List.{flat_map}
-use Rattle.msc.specs.Doc.{Doc, Chart, Body, final, node, Label, chart_names, label_names}
+use Rattle.msc.specs.Doc.{Doc, Chart, chart_names, label_names}
 use Rattle.msc.specs.Tokens.{Tok, name, word, sign, spell}
 use Rattle.msc.specs.declared.event.Event.{Event}
 use Rattle.msc.specs.declared.event.Event.TheVariants.{Out, In, Action}

@@ -1,6 +1,9 @@
 -- Which documents are well formed.
+use Rattle.msc.specs.declared.label.Body.{Body}
+use Rattle.msc.specs.declared.label.Body.TheVariants.{End as final, Node as node}
+use Rattle.msc.specs.declared.label.Label.{Label}
 use Rattle.std.specs.Prelude.{ℕ, suc, max, Bool, true, false, cond, not, ◌&&◌, ◌||◌, ltb, List, [], ◌∷◌, ◌++◌, length, ◌==◌, nat_le, nat_lt}
-use Rattle.msc.specs.Doc.{Doc, Chart, Body, final, node, Label, chart_events, all_events, chart_names, label_names, out_count}
+use Rattle.msc.specs.Doc.{Doc, Chart, chart_events, all_events, chart_names, label_names, out_count}
 use Rattle.msc.specs.Shortest.{text_of}
 use Rattle.msc.specs.Spelling.{every, distinct, is_name, is_vocabulary}
 use Rattle.msc.specs.declared.event.Event.{Event}

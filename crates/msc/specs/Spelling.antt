@@ -1,9 +1,7 @@
 -- Words: which byte lists are words, which of them are reserved, and which are names.
-use Rattle.std.specs.Prelude.{ℕ, suc, Bool, true, false, cond, not, ◌&&◌, ◌||◌, List, [], ◌∷◌, map, length, Some, None, Option, ◌==◌, nat_le, nat_lt}
-use Rattle.std.specs.List.{prefix_len}
+use Rattle.std.specs.Prelude.{ℕ, suc, Bool, true, false, cond, not, ◌&&◌, ◌||◌, List, [], ◌∷◌, length, Some, None, Option, ◌==◌, nat_le, nat_lt}
+use Rattle.std.specs.List.{prefix_len, list_all, list_any}
 use Rattle.std.specs.Str.{bytes_eq}
-use Rattle.msc.specs.Rows.{name_of}
-use Rattle.msc.specs.declared.name.Name.{Name}
 
 abbrev pub within : ℕ → ℕ → ℕ → Bool
 within low high b = nat_le low b && nat_le b high
@@ -33,12 +31,10 @@ abbrev pub place : List (List ℕ) → List ℕ → Option ℕ
 place xs w = place_from 0 xs w
 
 abbrev pub has : List (List ℕ) → List ℕ → Bool
-has [] w = false
-has (x ∷ xs) w = bytes_eq w x || has xs w
+has xs w = list_any (bytes_eq w) xs
 
 abbrev pub every : {A : Type 0} → (A → Bool) → List A → Bool
-every p [] = true
-every p (x ∷ xs) = p x && every p xs
+every p xs = list_all p xs
 
 -- no word stands twice
 abbrev pub distinct : List (List ℕ) → Bool
@@ -52,6 +48,3 @@ is_vocabulary ws = length ws == 16 && (every is_word ws && distinct ws)
 -- a name is a word that is not reserved
 abbrev pub is_name : List (List ℕ) → List ℕ → Bool
 is_name ws w = is_word w && not (has ws w)
-
-abbrev pub spellings_of : List Name → List (List ℕ)
-spellings_of ns = map name_of ns

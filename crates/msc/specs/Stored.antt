@@ -1,14 +1,10 @@
 -- The document that tables hold.
 use Rattle.std.specs.Prelude.{ℕ, zero, suc, List, [], ◌∷◌, map, slice_index, slice_index_or, slice_range}
-use Rattle.msc.specs.Doc.{Doc, Body, final, node}
+use Rattle.msc.specs.Doc.{Doc}
 use Rattle.msc.specs.Doc as doc
-use Rattle.msc.specs.Rows.{name_of, items_of, labels_of}
-use Rattle.msc.specs.Spelling.{spellings_of}
 use Rattle.msc.specs.declared.chart.Chart.{Chart}
-use Rattle.msc.specs.declared.label.Label.{Label}
-use Rattle.msc.specs.declared.label.Body.TheVariants as body
 use Rattle.msc.specs.declared.event.Event.{Event}
-use Rattle.msc.specs.declared.tables.Tables.{Tables}
+use Rattle.msc.specs.declared.tables.Tables.TheInside.{Inside}
 
 -- the parts that end at the given places of the events, the first beginning at a
 abbrev pub cut : List Event → ℕ → List ℕ → List (List Event)
@@ -18,26 +14,19 @@ cut es a (e ∷ ends) = slice_range es a e ∷ cut es e ends
 -- the charts, each beginning where the one ahead ends
 abbrev pub charts_from : List Event → ℕ → List Chart → List doc.Chart
 charts_from es a [] = []
-charts_from es a (c ∷ cs) = record { name = name_of c.name; parts = cut es a c.ends } ∷ charts_from es (slice_index c.ends 7) cs
+charts_from es a (c ∷ cs) = record { name = c.name; parts = cut es a c.ends } ∷ charts_from es (slice_index c.ends 7) cs
 
-abbrev pub body_of : Rattle.msc.specs.declared.label.Body.Body → Body
-body_of body.End = final
-body_of (body.Node c ls) = node c (labels_of ls)
-
-abbrev pub label_of : Label → doc.Label
-label_of l = record { name = name_of l.name; body = body_of l.body }
-
-abbrev pub doc_of : Tables → Doc
+abbrev pub doc_of : Inside → Doc
 doc_of t = record {
-  words = spellings_of t.words.spellings;
-  title = name_of t.title;
-  instances = map name_of (items_of t.instances);
-  messages = map name_of (items_of t.messages);
-  actions = map name_of (items_of t.actions);
-  charts = charts_from (items_of t.events) 0 (items_of t.charts);
-  graph = name_of t.graph;
-  start = labels_of t.start;
-  labels = map label_of (items_of t.labels);
+  words = t.words;
+  title = t.title;
+  instances = t.instances;
+  messages = t.messages;
+  actions = t.actions;
+  charts = charts_from t.events 0 t.charts;
+  graph = t.graph;
+  start = t.start;
+  labels = t.labels;
 }
 
 -- where the part of an instance ends

@@ -5,6 +5,12 @@ use Rattle.msc.specs.declared.symbol.Symbol.TheVariants.{Open, Close, Colon, Sem
 use Rattle.msc.specs.declared.words.Keyword.{Keyword}
 use Rattle.msc.specs.declared.words.Keyword.TheVariants as keyword
 
+-- the keywords, in the order of a table of reserved words
+abbrev pub keywords : List Keyword
+keywords =
+    keyword.Mscdocument ∷ keyword.Endmscdocument ∷ keyword.Inst ∷ keyword.Msc ∷ keyword.Endmsc ∷ keyword.Instance ∷ keyword.Endinstance ∷ keyword.Out
+    ∷ keyword.In ∷ keyword.To ∷ keyword.From ∷ keyword.Action ∷ keyword.Expr ∷ keyword.Seq ∷ keyword.Alt ∷ keyword.End ∷ []
+
 -- the place of a keyword in a table of reserved words
 abbrev pub rank : Keyword → ℕ
 rank keyword.Mscdocument = 0

@@ -1,13 +1,12 @@
-// Documents are copied whole.
+// Documents are copied whole. A derived clone may fail, and these copies cannot.
 ghost use Rattle.std.specs.Prelude.{◌≡◌};
-ghost use Rattle.msc.specs.Stored.{doc_of};
 
 use crate::document::Document;
 use crate::tables::Tables;
 
 impl Tables {
     pub fn copied(&self) -> Tables
-        ensures { doc_of result ≡ doc_of self.now }
+        ensures { result ≡ self.now }
     {
         Tables {
             words: self.words,
@@ -26,7 +25,7 @@ impl Tables {
 
 impl Document {
     pub fn copied(&self) -> Document
-        ensures { doc_of result.tables ≡ doc_of self.now.tables }
+        ensures { result.tables ≡ self.now.tables }
     {
         Document {
             tables: self.tables.copied(),

@@ -1,71 +1,74 @@
 // What a document answers: its meaning, by numbers.
 ghost use Rattle.std.specs.Prelude.{◌≡◌, ◌-◌, take, drop};
 ghost use Rattle.msc.specs.Meaning.{meaning_of};
-ghost use Rattle.msc.specs.Stored.{doc_of, ends_of, end_at, begin_at};
+ghost use Rattle.msc.specs.Stored.{ends_of, end_at, begin_at};
 
 use crate::chart::Chart;
 use crate::document::Document;
 use crate::event::Event;
-use crate::label::Body;
+use crate::label::{Body, Label};
 
 impl Document {
     pub fn instances(&self) -> usize
-        ensures { result ≡ (meaning_of (doc_of self.now.tables)).instances }
+        ensures { result ≡ (meaning_of self.now.tables).instances }
     {
-        self.tables.instances.len()
+        let tables = &self.tables;
+        tables.instances.len()
     }
 
+    #[tactic(auto, using(crate::proofs::Looks::length_charts))]
     pub fn charts(&self) -> usize
-        ensures { result ≡ (meaning_of (doc_of self.now.tables)).charts }
+        ensures { result ≡ (meaning_of self.now.tables).charts }
     {
-        self.tables.charts.len()
+        let tables = &self.tables;
+        tables.charts.len()
     }
 
     pub fn labels(&self) -> usize
-        ensures { result ≡ (meaning_of (doc_of self.now.tables)).labels }
+        ensures { result ≡ (meaning_of self.now.tables).labels }
     {
-        self.tables.labels.len()
+        let tables = &self.tables;
+        tables.labels.len()
     }
 
     // The chart of a node; none for an end label or what is no label.
     pub fn chart(&self, label: usize) -> Option<u8>
-        ensures { result ≡ (meaning_of (doc_of self.now.tables)).chart label }
+        ensures { result ≡ (meaning_of self.now.tables).chart label }
     {
-        let labels = self.tables.labels.as_slice();
-        if label >= labels.len() {
-            return None;
-        }
-        let row = &labels[label];
-        match row.body {
+        let tables = &self.tables;
+        match tables.labels.as_slice().get(label)?.body {
+            Body::Node { chart, .. } => Some(chart),
             Body::End => None,
-            Body::Node { chart, next: _ } => Some(chart),
         }
     }
 
     // The labels that may follow a node, or at 64 the start list.
     pub fn list(&self, label: usize) -> &[u8]
-        ensures { result.now ≡ (meaning_of (doc_of self.now.tables)).list label }
+        ensures { result.now ≡ (meaning_of self.now.tables).list label }
     {
+        let tables = &self.tables;
         if label == 64 {
-            return self.tables.start.as_slice();
+            return tables.start.as_slice();
         }
-        let labels = self.tables.labels.as_slice();
-        if label >= labels.len() {
-            return &[];
-        }
-        let row = &labels[label];
-        match &row.body {
-            Body::End => &[],
-            Body::Node { chart: _, next } => next.as_slice(),
+        match tables.labels.as_slice().get(label) {
+            Some(
+                Label {
+                    body: Body::Node { next, .. },
+                    ..
+                },
+            ) => next.as_slice(),
+            _ => &[],
         }
     }
 
     // The part of an instance in a chart.
+    #[tactic(auto, using(crate::proofs::Looks::part_at))]
     pub fn part(&self, chart: usize, instance: usize) -> &[Event]
-        ensures { result.now ≡ (meaning_of (doc_of self.now.tables)).drawn chart instance }
+        ensures { result.now ≡ (meaning_of self.now.tables).drawn chart instance }
     {
-        let charts = self.tables.charts.as_slice();
-        let events = self.tables.events.as_slice();
+        let tables = &self.tables;
+        let charts = tables.charts.as_slice();
+        let events = tables.events.as_slice();
         between(
             events,
             begin_of(charts, chart, instance),
@@ -78,26 +81,20 @@ impl Document {
 fn end_of(charts: &[Chart], chart: usize, instance: usize) -> usize
     ensures { result ≡ end_at (ends_of charts.now) chart instance }
 {
-    if chart >= charts.len() {
-        return 0;
-    }
-    let row = &charts[chart];
-    if instance >= 8 {
-        return 0;
-    }
-    row.ends[instance] as usize
+    charts
+        .get(chart)
+        .and_then(|row| row.ends.get(instance))
+        .map_or(0, |end| usize::from(*end))
 }
 
 // Where it begins.
 fn begin_of(charts: &[Chart], chart: usize, instance: usize) -> usize
     ensures { result ≡ begin_at (ends_of charts.now) chart instance }
 {
-    if instance > 0 {
-        end_of(charts, chart, instance - 1)
-    } else if chart > 0 {
-        end_of(charts, chart - 1, 7)
-    } else {
-        0
+    match (chart, instance) {
+        (0, 0) => 0,
+        (_, 0) => end_of(charts, chart - 1, 7),
+        _ => end_of(charts, chart, instance - 1),
     }
 }
 
@@ -105,6 +102,5 @@ fn begin_of(charts: &[Chart], chart: usize, instance: usize) -> usize
 fn between(events: &[Event], a: usize, b: usize) -> &[Event]
     ensures { result.now ≡ take (b - a) (drop a events.now) }
 {
-    let b = b.min(events.len());
-    if a < b { &events[a..b] } else { &[] }
+    events.get(a..b.min(events.len())).unwrap_or(&[])
 }

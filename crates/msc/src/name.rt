@@ -1,10 +1,21 @@
 // A name or a reserved word, held by value: at most sixteen bytes.
-ghost use Rattle.std.specs.Prelude.{◌≡◌, ◌≤◌, length};
+ghost use Rattle.std.specs.Prelude.{◌≡◌, []};
 
-#[derive(Clone, Copy)]
-pub struct Name {
-    pub bytes: [u8; 16],
-    pub len: usize,
-    ghost short: { len ≤ 16 },
-    ghost long: { length bytes ≡ 16 },
+use crate::short::ShortList;
+
+pub type Name = ShortList<16>;
+
+impl Name {
+    // No byte.
+    pub fn blank() -> Name
+        ensures { result ≡ [] }
+    {
+        Name::new()
+    }
+
+    pub fn as_bytes(&self) -> &[u8]
+        ensures { result.now ≡ self.now }
+    {
+        self.as_slice()
+    }
 }

@@ -1,10 +1,13 @@
 -- A well-formed document is within the limits that the judge uses.
+use Rattle.msc.specs.declared.label.Body.{Body}
+use Rattle.msc.specs.declared.label.Body.TheVariants.{End as final, Node as node}
+use Rattle.msc.specs.declared.label.Label.{Label}
 use Rattle.std.proofs.Common.{◌≡◌, ℕ, zero, suc, ◌+◌, ◌<◌, ◌≤◌, Bool, true, false, cond, not, ◌&&◌, eqb, ltb, leb, ◌⊎◌, List, [], ◌∷◌, ◌++◌, length, get_or, Some, None, Decides, sum, sym, refl, ap, ◌∙◌, subst, inl, inr, ⊎_elim, add-zero, arith, length-append}
 use Rattle.std.specs.List.{flat_map}
 use Rattle.std.proofs.lemmas.List.{get_or_past}
 use Rattle.std.proofs.lemmas.List.Sums.{sum_by-cons}
 use Rattle.std.proofs.lemmas.Bool.{cases_lt, and_parts, eqb-true, leb-true, ltb-true, ne_eqb}
-use Rattle.msc.specs.Doc.{Doc, Chart, Body, final, node, Label, chart_events, all_events, chart_names, label_names}
+use Rattle.msc.specs.Doc.{Doc, Chart, chart_events, all_events, chart_names, label_names}
 use Rattle.msc.specs.Shortest.{text_of}
 use Rattle.msc.specs.Events.{out_to, in_from, picked}
 use Rattle.msc.specs.Listing.{Mem}
@@ -14,7 +17,6 @@ use Rattle.msc.specs.Spelling.{every, is_name, is_vocabulary}
 use Rattle.msc.specs.declared.event.Event.{Event}
 use Rattle.msc.specs.declared.event.Event.TheVariants.{Out, In, Action}
 use Rattle.msc.specs.Choice.{Matched, Listable}
-use Rattle.msc.specs.Stored.{doc_of}
 use Rattle.msc.specs.declared.document.Document.{Document}
 use Rattle.order.specs.Charts.{is_matched, is_listable}
 use Rattle.order.specs.Meant.{meant}
@@ -97,63 +99,49 @@ record Facts (d : Doc) : Type 0 where
   bodies : every (λ (l : Label). body (length d.charts) (length d.labels) l.body) d.labels ≡ true
   starts : list (length d.labels) d.start ≡ true
 
--- the tests of a well-formed document, from one on
-module _ (d : Doc) where
-  abbrev tail10 : Bool
-  tail10 = list (length d.labels) d.start && leb (length (text_of d)) most
+-- a chain of tests: every one holds
+abbrev conj : List Bool → Bool → Bool
+conj [] z = z
+conj (x ∷ xs) z = x && conj xs z
 
-  abbrev tail9 : Bool
-  tail9 = every (λ (l : Label). body (length d.charts) (length d.labels) l.body) d.labels && tail10
+conj-has : (xs : List Bool) (z : Bool) → conj xs z ≡ true → (k : ℕ) → get_or xs k true ≡ true
+conj-has [] z h k = refl
+conj-has (x ∷ xs) z h zero = (and_parts x (conj xs z) h).0
+conj-has (x ∷ xs) z h (suc k) = conj-has xs z (and_parts x (conj xs z) h).1 k
 
-  abbrev tail8 : Bool
-  tail8 = many 1 64 d.labels && names d.words (label_names d.labels) && tail9
+module _ (d : Doc) (h : well_formed d ≡ true) where
+  -- the tests of a document, but the last
+  abbrev tests : List Bool
+  tests =
+      is_vocabulary d.words ∷ is_name d.words d.title
+      ∷ (many 1 8 d.instances && names d.words d.instances)
+      ∷ (leb (length d.messages) 128 && names d.words d.messages)
+      ∷ (leb (length d.actions) 128 && names d.words d.actions)
+      ∷ (leb (length d.charts) 64 && names d.words (chart_names d.charts ++ (d.graph ∷ [])))
+      ∷ every (chart (length d.instances)) d.charts
+      ∷ leb (length (all_events d.charts)) 1024
+      ∷ numbered (length d.messages) (length d.actions) 0 0 (all_events d.charts)
+      ∷ (many 1 64 d.labels && names d.words (label_names d.labels))
+      ∷ every (λ (l : Label). body (length d.charts) (length d.labels) l.body) d.labels
+      ∷ list (length d.labels) d.start ∷ []
 
-  abbrev tail7 : Bool
-  tail7 = numbered (length d.messages) (length d.actions) 0 0 (all_events d.charts) && tail8
+  holds : (k : ℕ) → get_or tests k true ≡ true
+  unfolding well_formed
+  holds = conj-has tests (leb (length (text_of d)) most) h
 
-  abbrev tail6 : Bool
-  tail6 = leb (length (all_events d.charts)) 1024 && tail7
+  -- the highest of a number of items
+  high : {A : Type 0} (low top : ℕ) (xs : List A) (b : Bool) → (many low top xs && b) ≡ true → length xs ≤ top
+  high low top xs b t = leb-true (length xs) top (and_parts (leb low (length xs)) (leb (length xs) top) (and_parts (many low top xs) b t).0).1
 
-  abbrev tail5 : Bool
-  tail5 = every (chart (length d.instances)) d.charts && tail6
-
-  abbrev tail4 : Bool
-  tail4 = leb (length d.charts) 64 && names d.words (chart_names d.charts ++ (d.graph ∷ [])) && tail5
-
-  abbrev tail3 : Bool
-  tail3 = leb (length d.actions) 128 && names d.words d.actions && tail4
-
-  abbrev tail2 : Bool
-  tail2 = leb (length d.messages) 128 && names d.words d.messages && tail3
-
-  abbrev tail1 : Bool
-  tail1 = many 1 8 d.instances && names d.words d.instances && tail2
-
--- the highest of a number of items
-high : {A : Type 0} (low top : ℕ) (xs : List A) (b : Bool) → (many low top xs && b) ≡ true → length xs ≤ top
-high low top xs b h = leb-true (length xs) top (and_parts (leb low (length xs)) (leb (length xs) top) (and_parts (many low top xs) b h).0).1
-
-facts : (d : Doc) → well_formed d ≡ true → Facts d
-unfolding well_formed
-facts d h =
-    let x1 = (and_parts (is_name d.words d.title) (tail1 d) (and_parts (is_vocabulary d.words) (is_name d.words d.title && tail1 d) h).1).1 in
-    let x2 = and_parts (many 1 8 d.instances && names d.words d.instances) (tail2 d) x1 in
-    let x3 = and_parts (leb (length d.messages) 128 && names d.words d.messages) (tail3 d) x2.1 in
-    let x4 = and_parts (leb (length d.actions) 128 && names d.words d.actions) (tail4 d) x3.1 in
-    let x5 = and_parts (leb (length d.charts) 64 && names d.words (chart_names d.charts ++ (d.graph ∷ []))) (tail5 d) x4.1 in
-    let x6 = and_parts (every (chart (length d.instances)) d.charts) (tail6 d) x5.1 in
-    let x7 = and_parts (leb (length (all_events d.charts)) 1024) (tail7 d) x6.1 in
-    let x8 = and_parts (numbered (length d.messages) (length d.actions) 0 0 (all_events d.charts)) (tail8 d) x7.1 in
-    let x9 = and_parts (many 1 64 d.labels && names d.words (label_names d.labels)) (tail9 d) x8.1 in
-    let x10 = and_parts (every (λ (l : Label). body (length d.charts) (length d.labels) l.body) d.labels) (tail10 d) x9.1 in
-    record {
-      instances = high 1 8 d.instances (names d.words d.instances) x2.0;
-      charts = leb-true (length d.charts) 64 (and_parts (leb (length d.charts) 64) (names d.words (chart_names d.charts ++ (d.graph ∷ []))) x5.0).0;
-      each = x6.0;
-      labels = high 1 64 d.labels (names d.words (label_names d.labels)) x9.0;
-      bodies = x10.0;
-      starts = (and_parts (list (length d.labels) d.start) (leb (length (text_of d)) most) x10.1).0;
-    }
+  facts : Facts d
+  facts = record {
+    instances = high 1 8 d.instances (names d.words d.instances) (holds 2);
+    charts = leb-true (length d.charts) 64 (and_parts (leb (length d.charts) 64) (names d.words (chart_names d.charts ++ (d.graph ∷ []))) (holds 5)).0;
+    each = holds 6;
+    labels = high 1 64 d.labels (names d.words (label_names d.labels)) (holds 9);
+    bodies = holds 10;
+    starts = holds 11;
+  }
 
 module _ (d : Doc) (f : Facts d) where
   abbrev m : Meaning
@@ -182,13 +170,13 @@ module _ (d : Doc) (f : Facts d) where
       omega (arith, ltb-true l _ (every_mem (λ k. ltb k (length d.labels)) ls l b.0 i), f.labels)
 
   node_facts : (l c : ℕ) → (b : Body) → (row l).body ≡ b → chart_of b ≡ Some c → (c < m.charts) × (l < 64)
-  node_facts l c final e h = absurd (let z : ◌≡◌ {A = ℕ} 0 1 = cc in let w : ⊥ = omega arith in w)
+  node_facts l c final e h = cc
   node_facts l c (node k ls) e h = go (row_at l)
     where
       go : ((l < length d.labels) × (body (length d.charts) (length d.labels) (row l).body ≡ true)) ⊎ ((row l).body ≡ final) → (c < m.charts) × (l < 64)
       go (inl (a, t)) = let k_is : k ≡ c = cc in
           (omega (arith, ltb-true k _ (and_parts (ltb k (length d.charts)) (list (length d.labels) ls) (ap (body (length d.charts) (length d.labels)) (sym e) ∙ t)).0), omega (arith, f.labels, a))
-      go (inr t) = absurd (let z : node k ls ≡ final = sym e ∙ t in let y : ◌≡◌ {A = ℕ} 0 1 = cc in let w : ⊥ = omega arith in w)
+      go (inr t) = cc
 
   row_list : (x l : ℕ) (b : Body) → (row x).body ≡ b → Mem l (list_of b) → l < 64
   row_list x l final e i = absurd i
@@ -196,7 +184,7 @@ module _ (d : Doc) (f : Facts d) where
     where
       go : ((x < length d.labels) × (body (length d.charts) (length d.labels) (row x).body ≡ true)) ⊎ ((row x).body ≡ final) → l < 64
       go (inl (a, t)) = listed_below ls l (and_parts (ltb k (length d.charts)) (list (length d.labels) ls) (ap (body (length d.charts) (length d.labels)) (sym e) ∙ t)).1 i
-      go (inr t) = absurd (let z : node k ls ≡ final = sym e ∙ t in let y : ◌≡◌ {A = ℕ} 0 1 = cc in let w : ⊥ = omega arith in w)
+      go (inr t) = cc
 
   any_list : (x l : ℕ) (b : Bool) → eqb x start ≡ b → Mem l (cond b d.start (list_of (row x).body)) → l < 64
   any_list x l true e i = listed_below d.start l f.starts i
@@ -204,7 +192,7 @@ module _ (d : Doc) (f : Facts d) where
 
   end_empty : (b : Body) → chart_of b ≡ None → list_of b ≡ []
   end_empty final h = refl
-  end_empty (node k ls) h = absurd (let z : ◌≡◌ {A = ℕ} 0 1 = cc in let w : ⊥ = omega arith in w)
+  end_empty (node k ls) h = cc
 
   within-limits : Limits m
   within-limits = record {
@@ -222,7 +210,7 @@ limits d h = within-limits d (facts d h)
 -- what a document means is within the limits
 pub within : (d : Document) → Limits (meant d)
 unfolding meant
-within d = limits (doc_of d.tables) d.sound
+within d = limits d.tables d.sound
 
 pub matched_rule : (d : Document) (c : ℕ) (r : Bool) → r ≡ is_matched ((meant d).drawn c) → Decides r (Matched (meant d) c)
 matched_rule d c r e = (λ h. is_matched_lem ((meant d).drawn c) ((within d).framed c) (sym e ∙ h), λ M. e ∙ matched_is ((meant d).drawn c) M)

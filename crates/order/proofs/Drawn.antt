@@ -6,8 +6,9 @@ use Rattle.msc.specs.Events.{out_to, in_from, picked}
 use Rattle.msc.specs.Order.{Belongs}
 use Rattle.msc.specs.declared.event.Event.{Event}
 use Rattle.msc.specs.declared.event.Event.TheVariants.{Out, In, Action}
-use Rattle.order.specs.Charts.{pair_matches, sends_match, is_matched}
-use Rattle.order.proofs.Scanned.{all_each, all_from}
+use Rattle.order.specs.Charts.{instances, pair_matches, sends_match, is_matched}
+use Rattle.order.proofs.Scanned.{all_each, all_from, range_has}
+use Rattle.order.proofs.Walks.{picked_is}
 
 -- what a well-formed document says of a chart's parts: eight at most are not empty, partners are among the eight, and there are 64 events at most
 pub record Framed (parts : ℕ → List Event) : Type 0 where
@@ -75,9 +76,11 @@ module _ (parts : ℕ → List Event) where
   is_matched_lem w h p q = go (cases_lt p 8) (cases_lt q 8)
     where
       go : (p < 8) ⊎ (8 ≤ p) → (q < 8) ⊎ (8 ≤ q) → picked (out_to q) (parts p) ≡ picked (in_from p) (parts q)
-      go (inl a) (inl b) = (bytes_eq-Decides _ _).0 (all_each (pair_matches parts p) 0 8 (all_each (sends_match parts) 0 8 h p (omega arith) (omega arith)) q (omega arith) (omega arith))
+      go (inl a) (inl b) = sym (picked_is (out_to q) (parts p))
+          ∙ (bytes_eq-Decides _ _).0 (all_each (pair_matches parts p) instances (all_each (sends_match parts) instances h p (range_has 0 8 p (omega arith) (omega arith))) q (range_has 0 8 q (omega arith) (omega arith)))
+          ∙ picked_is (in_from p) (parts q)
       go (inl a) (inr b) = w.to p q b ∙ sym (ap (picked (in_from p)) (w.few q b))
       go (inr a) b = ap (picked (out_to q)) (w.few p a) ∙ sym (w.from p q a)
 
   pub matched_is : Pairs parts → is_matched parts ≡ true
-  matched_is M = all_from (sends_match parts) 0 8 (λ p _ _. all_from (pair_matches parts p) 0 8 (λ q _ _. (bytes_eq-Decides _ _).1 (M p q)))
+  matched_is M = all_from (sends_match parts) instances (λ p. all_from (pair_matches parts p) instances (λ q. (bytes_eq-Decides _ _).1 (picked_is (out_to q) (parts p) ∙ M p q ∙ sym (picked_is (in_from p) (parts q)))))

@@ -58,17 +58,17 @@ module _ (drawn : ℕ → ℕ → List Event) (c : ℕ) where
     low i s (inl h) = h
     low i s (inr h) = absurd (let z : ⊥ = omega (arith, starts_some (drawn c i) s, ap length (w.few i h)) in z)
 
-    pub leads_starter : (i : ℕ) → LeadsChart i → Mem i (starters (drawn c) 0 8)
-    leads_starter i (x, f, e) = let s = subst (λ z. starts (drawn c z) ≡ true) e (first_is M x f).1 in mem_starters (drawn c) 0 8 i (omega arith) (low i s (cases_lt i 8)) s
+    pub leads_starter : (i : ℕ) → LeadsChart i → Mem i (starters (drawn c))
+    leads_starter i (x, f, e) = let s = subst (λ z. starts (drawn c z) ≡ true) e (first_is M x f).1 in mem_starters (drawn c) i (low i s (cases_lt i 8)) s
 
-    pub starter_leads : (i : ℕ) → Mem i (starters (drawn c) 0 8) → LeadsChart i
-    starter_leads i m = (at i, is_first i (starters_mem (drawn c) 0 8 i m), refl)
+    pub starter_leads : (i : ℕ) → Mem i (starters (drawn c)) → LeadsChart i
+    starter_leads i m = (at i, is_first i (starters_mem (drawn c) i m), refl)
 
     abbrev front : Leaders
-    front = gathered Nobody (starters (drawn c) 0 8)
+    front = gathered Nobody (starters (drawn c))
 
     front_tally : Tally front LeadsChart
-    front_tally = tally_like front (λ i. Mem i (starters (drawn c) 0 8)) LeadsChart starter_leads leads_starter (tally (starters (drawn c) 0 8))
+    front_tally = tally_like front (λ i. Mem i (starters (drawn c))) LeadsChart starter_leads leads_starter (tally (starters (drawn c)))
 
     abbrev OneAlone : Type 0
     OneAlone = (x : Occ) × First drawn (c ∷ []) x × ((y : Occ) → First drawn (c ∷ []) y → y ≡ x)

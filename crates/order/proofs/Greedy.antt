@@ -1,8 +1,11 @@
 -- A chart that is played greedily is played whole exactly if its events can be listed.
-use Rattle.std.proofs.Common.{◌≡◌, ℕ, zero, suc, ◌+◌, ◌<◌, ◌≤◌, Bool, true, false, cond, ltb, ◌⊎◌, List, [], ◌∷◌, ◌++◌, length, get_or, take, drop, replicate, Some, None, sum, sym, refl, ap, ◌∙◌, subst, inl, inr, ⊎_elim, arith, length-set, drop-cons, get_or-set_other, get_or-set_same}
+use Rattle.std.proofs.Common.{◌≡◌, ℕ, zero, suc, ◌+◌, ◌<◌, ◌≤◌, true, false, ◌⊎◌, List, [], ◌∷◌, ◌++◌, length, get_or, take, drop, replicate, Some, None, Option, sum, sym, refl, ap, ◌∙◌, subst, inl, inr, ⊎_elim, arith, length-set, drop-cons, get_or-set_other, get_or-set_same}
 use native.Mathlib.Decide.{dec_lt}
 use lib.ListN.{get_or-replicate}
+use Rattle.std.specs.List.{slice_get}
+use Rattle.std.specs.Option.{option_map_or}
 use Rattle.std.proofs.lemmas.List.{get_or_past}
+use Rattle.std.proofs.lemmas.Option.{slice_get_within, slice_get-get_or, get_or_from_slice_get}
 use Rattle.std.proofs.lemmas.List.Sums.{sum_by-set}
 use Rattle.std.proofs.lemmas.Bool.{cases_lt, cases_eq, ltb-true, lt-ltb, le-leb, leb-true, both_ways}
 use Rattle.msc.specs.Events.{out_to, in_from, picked}
@@ -10,8 +13,9 @@ use Rattle.msc.specs.Listing.{Mem, NoRep, After, link}
 use Rattle.msc.specs.Order.{Spot, spot, Occ, occ, Belongs, IsOcc, Direct, Before, Linearisation}
 use Rattle.msc.specs.declared.event.Event.{Event}
 use Rattle.msc.specs.declared.event.Event.TheVariants.{Out, In, Action}
-use Rattle.order.specs.Charts.{playable, can_play, ready, advanced, played, is_played, is_listable}
-use Rattle.order.proofs.Scanned.{lowest_none, lowest_some, all_each, all_from, repeat_keeps, repeat_stuck}
+use Rattle.order.specs.Charts.{instances, playable, can_play, ready, advanced, played, is_played, is_listable}
+use Rattle.order.proofs.Scanned.{range_has, find_none, find_lowest, all_each, all_from, repeat_keeps, repeat_stuck}
+use Rattle.order.proofs.Walks.{picked_is}
 use Rattle.order.proofs.Members.{mem_left, mem_right, mem_cases, norep_snoc, after_snoc, after_chain, first_not}
 use Rattle.order.proofs.Drawn.{Framed, Pairs, drop_lt, picked_mono, out_more, out_of}
 
@@ -54,15 +58,15 @@ module _ (drawn : ℕ → ℕ → List Event) (c : ℕ) where
     may : playable parts done i (get_or (parts i) (get_or done i 0) (Out 0 0)) ≡ true
 
   can_next : (done : List ℕ) (i : ℕ) → can_play parts done i ≡ true → (get_or done i 0 < length (parts i)) × (playable parts done i (get_or (parts i) (get_or done i 0) (Out 0 0)) ≡ true)
-  can_next done i h = go (ltb (get_or done i 0) (length (parts i))) refl h
+  can_next done i h = go (slice_get (parts i) (get_or done i 0)) refl h
     where
-      go : (b : Bool) → ltb (get_or done i 0) (length (parts i)) ≡ b → cond b (playable parts done i (get_or (parts i) (get_or done i 0) (Out 0 0))) false ≡ true
+      go : (o : Option Event) → slice_get (parts i) (get_or done i 0) ≡ o → option_map_or (playable parts done i) o false ≡ true
           → (get_or done i 0 < length (parts i)) × (playable parts done i (get_or (parts i) (get_or done i 0) (Out 0 0)) ≡ true)
-      go true e h = (ltb-true _ _ e, h)
-      go false e h = absurd (both_ways false refl h)
+      go (Some v) e h = (slice_get_within (parts i) (get_or done i 0) v e, ap (playable parts done i) (get_or_from_slice_get (parts i) (get_or done i 0) v (Out 0 0) e) ∙ h)
+      go None e h = absurd (both_ways false refl h)
 
   next_of : (done : List ℕ) (i : ℕ) → ready parts done ≡ Some i → Next done i
-  next_of done i h = let r = lowest_some (can_play parts done) 0 8 i h in let s = can_next done i r.here in
+  next_of done i h = let r = find_lowest (can_play parts done) 0 8 i h in let s = can_next done i r.here in
       record { below = omega (arith, r.to); inside = s.0; may = s.1 }
 
   -- the out that belongs to what can be played has been played
@@ -73,7 +77,7 @@ module _ (drawn : ℕ → ℕ → List Event) (c : ℕ) where
       now = let d : get_or (parts i) (get_or done i 0) (Out 0 0) ∷ drop (suc (get_or done i 0)) (parts i) ≡ In n' p ∷ ys = sym (drop-cons (parts i) (get_or done i 0) (Out 0 0) t.inside) ∙ inn in cc
 
       more : length (picked (in_from p) (take (get_or done i 0) (parts i))) < length (picked (out_to i) (take (get_or done p 0) (parts p)))
-      more = ltb-true _ _ (ap (playable parts done i) (sym now) ∙ t.may)
+      more = rw (← picked_is (in_from p) (take (get_or done i 0) (parts i)), ← picked_is (out_to i) (take (get_or done p 0) (parts p))) (ltb-true _ _ (ap (playable parts done i) (sym now) ∙ t.may))
 
       late : get_or done p 0 ≤ a → ⊥
       late h = omega (arith, more, count, picked_mono (out_to i) (get_or done p 0) a (parts p) h)
@@ -146,7 +150,7 @@ module _ (drawn : ℕ → ℕ → List Event) (c : ℕ) where
           go (occ (suc j) (spot i k)) p = absurd (let z : ⊥ = omega (arith, p.0) in z)
 
       whole : (i k : ℕ) → k < length (parts i) → (i < 8) ⊎ (8 ≤ i) → k < get_or (played parts) i 0
-      whole i k l (inl b) = omega (arith, leb-true _ _ (all_each (is_played parts (played parts)) 0 8 h i (omega arith) (omega arith)))
+      whole i k l (inl b) = omega (arith, leb-true _ _ (all_each (is_played parts (played parts)) instances h i (range_has 0 8 i (omega arith) (omega arith))))
       whole i k l (inr b) = absurd (let z : ⊥ = omega (arith, ap length (w.few i b)) in z)
 
       complete : (x : Occ) → IsOcc drawn (c ∷ []) x → Mem x listed_all.list
@@ -167,7 +171,7 @@ module _ (drawn : ℕ → ℕ → List Event) (c : ℕ) where
   -- an event that is not played, with all played that are before it, can be played
   module _ (M : Pairs parts) (done : List ℕ) where
     may_play : (i k : ℕ) → get_or done i 0 ≡ k → k < length (parts i) → ((y : Occ) → Before drawn (c ∷ []) y (occ 0 (spot i k)) → Passed done y) → can_play parts done i ≡ true
-    may_play i k e l past = rw (e, lt-ltb k (length (parts i)) l) (go (get_or (parts i) k (Out 0 0)) refl)
+    may_play i k e l past = rw (e, slice_get-get_or (parts i) k (Out 0 0) l) (go (get_or (parts i) k (Out 0 0)) refl)
       where
         go : (v : Event) → get_or (parts i) k (Out 0 0) ≡ v → playable parts done i v ≡ true
         go (Out n q) h = refl
@@ -179,7 +183,7 @@ module _ (drawn : ℕ → ℕ → List Event) (c : ℕ) where
             let out = drop_lt r.0 (parts p) (Out b.0 i) b.2 b.4 in
             let was = past (occ 0 (spot p r.0)) (link (out, inr (refl, inr b))) in
             let mono = picked_mono (out_to i) (suc r.0) (get_or done p 0) (parts p) (omega (arith, was.1)) in
-            lt-ltb _ _ (rw e (omega (arith, out_more (parts p) i r.0 b.0 b.2 b.4, b.6, mono)))
+            lt-ltb _ _ (rw (e, picked_is (in_from p) (take k (parts i)), picked_is (out_to i) (take (get_or done p 0) (parts p))) (omega (arith, out_more (parts p) i r.0 b.0 b.2 b.4, b.6, mono)))
 
     -- the first event of a listing that is not played
     found : (x : Occ) → IsOcc drawn (c ∷ []) x → (Passed done x → ⊥) → ((y : Occ) → Before drawn (c ∷ []) y x → Passed done y) → (i : ℕ) × (0 < length (parts i)) × (can_play parts done i ≡ true)
@@ -197,7 +201,7 @@ module _ (drawn : ℕ → ℕ → List Event) (c : ℕ) where
   listable_is w M (L, W) = ⊎_elim over more (first_not (Before drawn (c ∷ [])) (Passed (played parts)) (passed? (played parts)) [] L W.order (λ x m. absurd m))
     where
       over : ((x : Occ) → Mem x L → Passed (played parts) x) → is_listable parts ≡ true
-      over h = all_from (is_played parts (played parts)) 0 8 (λ i _ _. le-leb _ _
+      over h = all_from (is_played parts (played parts)) instances (λ i. le-leb _ _
           (⊎_elim (λ (l : get_or (played parts) i 0 < length (parts i)). absurd (let p = h (occ 0 (spot i (get_or (played parts) i 0))) (W.complete (occ 0 (spot i (get_or (played parts) i 0))) l) in let z : ⊥ = omega (arith, p.1) in z))
           (λ (l : length (parts i) ≤ get_or (played parts) i 0). l) (cases_lt (get_or (played parts) i 0) (length (parts i)))))
 
@@ -208,4 +212,4 @@ module _ (drawn : ℕ → ℕ → List Event) (c : ℕ) where
       more : (x : Occ) × Mem x L × (Passed (played parts) x → ⊥) × ((y : Occ) → Before drawn (c ∷ []) y x → Passed (played parts) y) → is_listable parts ≡ true
       more (x, m, n, past) = let r = found M (played parts) x (W.real x m) n past in
           let b = low r.0 r.1 (cases_lt r.0 8) in
-          absurd (both_ways (can_play parts (played parts) r.0) (lowest_none (can_play parts (played parts)) 0 8 (stuck w) r.0 (omega arith) (omega arith)) r.2)
+          absurd (both_ways (can_play parts (played parts) r.0) (find_none (can_play parts (played parts)) instances (stuck w) r.0 (range_has 0 8 r.0 (omega arith) (omega arith))) r.2)

@@ -6,4 +6,5 @@ pub mod Tallies
 pub mod Fronts
 pub mod Walks
 pub mod Limits
+pub mod Alike
 pub mod Bounds

@@ -1,121 +1,29 @@
 -- What searches find, and where repetitions stop.
-use Rattle.std.proofs.Common.{◌≡◌, ℕ, zero, suc, ◌+◌, ◌-◌, ◌<◌, ◌≤◌, Bool, true, false, cond, ◌⊎◌, List, [], ◌∷◌, ◌++◌, length, get_or, drop, Some, None, Option, sym, refl, ap, ◌∙◌, subst, inl, inr, ⊎_elim, add-one, arith}
-use Rattle.std.proofs.lemmas.List.{drop_more, drop_all}
-use Rattle.std.proofs.lemmas.Bool.{both_ways, cases_Bool, cases_order}
+use Rattle.std.proofs.Common.{◌≡◌, ℕ, zero, suc, ◌+◌, ◌-◌, ◌<◌, ◌≤◌, Bool, true, false, cond, ◌⊎◌, List, [], ◌∷◌, ◌++◌, Some, None, Option, sym, refl, ap, ◌∙◌, subst, inl, inr, ⊎_elim, arith}
+use Rattle.std.specs.List.{find, filter, list_all, range_with_len}
+use Rattle.std.proofs.lemmas.Bool.{and_parts, cases_order}
 use Rattle.msc.specs.Listing.{Mem}
-use Rattle.order.specs.Scans.{lowest, all, first, onward, repeat}
+use Rattle.order.specs.Scans.{onward, repeat}
 
 -- the range that is left, one number taken off
 left : (k e : ℕ) → k < e → e - k ≡ suc (e - (k + 1))
 left k e h = omega arith
 
+pub range_has : (k n x : ℕ) → k ≤ x → x < k + n → Mem x (range_with_len k n)
+range_has k zero x a b = absurd (let z : ⊥ = omega arith in z)
+range_has k (suc n) x a b = ⊎_elim (λ (e : k ≡ x). inl (sym e)) (⊎_elim (λ (l : k < x). inr (range_has (k + 1) n x (omega arith) (omega arith))) (λ (l : x < k). absurd (let z : ⊥ = omega arith in z))) (cases_order k x)
+
 module _ (f : ℕ → Bool) where
-  lowest_skip : (k n : ℕ) → f k ≡ false → lowest f k (suc n) ≡ lowest f (suc k) n
-  unfolding lowest
-  lowest_skip k n h = rw h
-
-  lowest_hit : (k n : ℕ) → f k ≡ true → lowest f k (suc n) ≡ Some k
-  unfolding lowest
-  lowest_hit k n h = rw h
-
-  lowest_nil : (k : ℕ) → lowest f k 0 ≡ None
-  unfolding lowest
-  lowest_nil k = refl
-
-  -- a loop over the numbers below e: goes on, finds, ends
-  pub lowest_goes : (k e : ℕ) → k < e → false ≡ f k → lowest f k (e - k) ≡ lowest f 0 e → lowest f (k + 1) (e - (k + 1)) ≡ lowest f 0 e
-  lowest_goes k e h x inv = rw add-one (sym (lowest_skip k (e - (suc k)) (sym x)) ∙ ap (lowest f k) (let z : suc (e - suc k) ≡ e - k = omega arith in z) ∙ inv)
-
-  pub lowest_finds : (k e : ℕ) → k < e → true ≡ f k → lowest f k (e - k) ≡ lowest f 0 e → Some k ≡ lowest f 0 e
-  lowest_finds k e h x inv = sym (lowest_hit k (e - (k + 1)) (sym x)) ∙ ap (lowest f k) (sym (left k e h)) ∙ inv
-
-  pub lowest_ends : (k e : ℕ) → e ≤ k → lowest f k (e - k) ≡ lowest f 0 e → None ≡ lowest f 0 e
-  lowest_ends k e h inv = sym (lowest_nil k) ∙ ap (lowest f k) (let z : 0 ≡ e - k = omega arith in z) ∙ inv
-
-  pub lowest_none : (k n : ℕ) → lowest f k n ≡ None → (x : ℕ) → k ≤ x → x < k + n → f x ≡ false
-  lowest_none k zero h x a b = absurd (let z : ⊥ = omega arith in z)
-  lowest_none k (suc n) h x a b = ⊎_elim (λ (t : f k ≡ true). absurd (never (lowest_hit k n t)))
-      (λ (t : f k ≡ false). ⊎_elim (λ (e : k ≡ x). subst (λ y. f y ≡ false) e t) (⊎_elim (λ (l : k < x). lowest_none (suc k) n (sym (lowest_skip k n t) ∙ h) x l (omega arith)) (λ (l : x < k). absurd (let z : ⊥ = omega arith in z))) (cases_order k x))
-      (cases_Bool (f k))
+  pub find_none : (xs : List ℕ) → find f xs ≡ None → (x : ℕ) → Mem x xs → f x ≡ false
+  find_none [] h x m = absurd m
+  find_none (y ∷ xs) h x m = go (f y) refl h m (find_none xs)
     where
-      never : lowest f k (suc n) ≡ Some k → ⊥
-      never e = let z : ◌≡◌ {A = Option ℕ} None (Some k) = sym h ∙ e in let y : ◌≡◌ {A = ℕ} 0 1 = cc in omega arith
-
-  pub record Found (k n x : ℕ) : Type 0 where
-    pub from : k ≤ x
-    pub to : x < k + n
-    pub here : f x ≡ true
-    pub ahead : (y : ℕ) → k ≤ y → y < x → f y ≡ false
-
-  pub lowest_some : (k n x : ℕ) → lowest f k n ≡ Some x → Found k n x
-  lowest_some k zero x h = absurd (let z : None ≡ Some x = sym (lowest_nil k) ∙ h in let y : ◌≡◌ {A = ℕ} 0 1 = cc in let w : ⊥ = omega arith in w)
-  lowest_some k (suc n) x h = ⊎_elim hit (λ t. skip t (lowest_some (suc k) n x (sym (lowest_skip k n t) ∙ h))) (cases_Bool (f k))
-    where
-      hit : f k ≡ true → Found k (suc n) x
-      hit t = let e : Some k ≡ Some x = sym (lowest_hit k n t) ∙ h in let i : k ≡ x = cc in
-          record { from = omega arith; to = omega arith; here = subst (λ y. f y ≡ true) i t; ahead = λ y a b. absurd (let z : ⊥ = omega arith in z) }
-
-      skip : f k ≡ false → Found (suc k) n x → Found k (suc n) x
-      skip t r = record {
-        from = omega (arith, r.from);
-        to = omega (arith, r.to);
-        here = r.here;
-        ahead = λ y a b. ⊎_elim (λ (e : k ≡ y). subst (λ z. f z ≡ false) e t) (⊎_elim (λ (l : k < y). r.ahead y l b) (λ (l : y < k). absurd (let z : ⊥ = omega arith in z))) (cases_order k y);
-      }
-
-  all_skip : (k n : ℕ) → f k ≡ true → all f k (suc n) ≡ all f (suc k) n
-  unfolding all
-  all_skip k n h = rw h
-
-  all_miss : (k n : ℕ) → f k ≡ false → all f k (suc n) ≡ false
-  unfolding all
-  all_miss k n h = rw h
-
-  all_nil : (k : ℕ) → all f k 0 ≡ true
-  unfolding all
-  all_nil k = refl
-
-  -- a loop over the numbers below e: goes on, fails, ends
-  pub all_goes : (k e : ℕ) → k < e → true ≡ f k → all f k (e - k) ≡ all f 0 e → all f (k + 1) (e - (k + 1)) ≡ all f 0 e
-  all_goes k e h x inv = rw add-one (sym (all_skip k (e - (suc k)) (sym x)) ∙ ap (all f k) (let z : suc (e - suc k) ≡ e - k = omega arith in z) ∙ inv)
-
-  pub all_fails : (k e : ℕ) → k < e → false ≡ f k → all f k (e - k) ≡ all f 0 e → false ≡ all f 0 e
-  all_fails k e h x inv = sym (all_miss k (e - (k + 1)) (sym x)) ∙ ap (all f k) (sym (left k e h)) ∙ inv
-
-  pub all_ends : (k e : ℕ) → e ≤ k → all f k (e - k) ≡ all f 0 e → true ≡ all f 0 e
-  all_ends k e h inv = sym (all_nil k) ∙ ap (all f k) (let z : 0 ≡ e - k = omega arith in z) ∙ inv
-
-  pub all_each : (k n : ℕ) → all f k n ≡ true → (x : ℕ) → k ≤ x → x < k + n → f x ≡ true
-  all_each k zero h x a b = absurd (let z : ⊥ = omega arith in z)
-  all_each k (suc n) h x a b = ⊎_elim
-      (λ (t : f k ≡ true). ⊎_elim (λ (e : k ≡ x). subst (λ y. f y ≡ true) e t) (⊎_elim (λ (l : k < x). all_each (suc k) n (sym (all_skip k n t) ∙ h) x l (omega arith)) (λ (l : x < k). absurd (let z : ⊥ = omega arith in z))) (cases_order k x))
-      (λ (t : f k ≡ false). absurd (both_ways (all f k (suc n)) (all_miss k n t) h))
-      (cases_Bool (f k))
-
-  pub all_from : (k n : ℕ) → ((x : ℕ) → k ≤ x → x < k + n → f x ≡ true) → all f k n ≡ true
-  all_from k zero h = all_nil k
-  all_from k (suc n) h = all_skip k n (h k (omega arith) (omega arith)) ∙ all_from (suc k) n (λ x a b. h x (omega arith) (omega arith))
-
-  -- a loop over a list: goes on, finds, ends
-  module _ (xs : List ℕ) (i : ℕ) (inv : first f (drop i xs) ≡ first f xs) where
-    pub first_goes : i < length xs → false ≡ f (get_or xs i 0) → first f (drop (i + 1) xs) ≡ first f xs
-    first_goes h e = sym (ap (first f) (drop_more xs i 0 h) ∙ rw (← e)) ∙ inv
-
-    pub first_finds : i < length xs → true ≡ f (get_or xs i 0) → Some (get_or xs i 0) ≡ first f xs
-    first_finds h e = sym (ap (first f) (drop_more xs i 0 h) ∙ rw (← e)) ∙ inv
-
-    pub first_ends : length xs ≤ i → None ≡ first f xs
-    first_ends h = sym (ap (first f) (drop_all i xs h)) ∙ inv
-
-  pub first_none : (xs : List ℕ) → first f xs ≡ None → (x : ℕ) → Mem x xs → f x ≡ false
-  first_none [] h x m = absurd m
-  first_none (y ∷ xs) h x m = go (f y) refl h m (first_none xs)
-    where
-      go : (b : Bool) → f y ≡ b → cond b (Some y) (first f xs) ≡ None → (x ≡ y) ⊎ Mem x xs → (first f xs ≡ None → (z : ℕ) → Mem z xs → f z ≡ false) → f x ≡ false
-      go true t h m ih = absurd (let z : ◌≡◌ {A = ℕ} 0 1 = cc in let w : ⊥ = omega arith in w)
+      go : (b : Bool) → f y ≡ b → cond b (Some y) (find f xs) ≡ None → (x ≡ y) ⊎ Mem x xs → (find f xs ≡ None → (z : ℕ) → Mem z xs → f z ≡ false) → f x ≡ false
+      go true t h m ih = cc
       go false t h (inl e) ih = ap f e ∙ t
       go false t h (inr m) ih = ih h x m
 
+  -- what is found, with what stands ahead of it
   pub record Met (xs : List ℕ) (x : ℕ) : Type 0 where
     pub before : List ℕ
     pub behind : List ℕ
@@ -123,13 +31,58 @@ module _ (f : ℕ → Bool) where
     pub here : f x ≡ true
     pub ahead : (y : ℕ) → Mem y before → f y ≡ false
 
-  pub first_some : (xs : List ℕ) (x : ℕ) → first f xs ≡ Some x → Met xs x
-  first_some [] x h = absurd (let z : ◌≡◌ {A = ℕ} 0 1 = cc in let w : ⊥ = omega arith in w)
-  first_some (y ∷ xs) x h = go (f y) refl h (first_some xs x)
+  pub find_some : (xs : List ℕ) (x : ℕ) → find f xs ≡ Some x → Met xs x
+  find_some [] x h = cc
+  find_some (y ∷ xs) x h = go (f y) refl h (find_some xs x)
     where
-      go : (b : Bool) → f y ≡ b → cond b (Some y) (first f xs) ≡ Some x → (first f xs ≡ Some x → Met xs x) → Met (y ∷ xs) x
+      go : (b : Bool) → f y ≡ b → cond b (Some y) (find f xs) ≡ Some x → (find f xs ≡ Some x → Met xs x) → Met (y ∷ xs) x
       go true t h ih = let e : y ≡ x = cc in record { before = []; behind = xs; split = ap (λ z. z ∷ xs) e; here = ap f (sym e) ∙ t; ahead = λ k m. absurd m }
       go false t h ih = let r = ih h in record { before = y ∷ r.before; behind = r.behind; split = ap (λ z. y ∷ z) r.split; here = r.here; ahead = λ k. ⊎_elim (λ e. ap f e ∙ t) (r.ahead k) }
+
+  -- the lowest of the n numbers from k on that is found
+  pub record Found (k n x : ℕ) : Type 0 where
+    pub to : x < k + n
+    pub here : f x ≡ true
+    pub ahead : (y : ℕ) → k ≤ y → y < x → f y ≡ false
+
+  pub find_lowest : (k n x : ℕ) → find f (range_with_len k n) ≡ Some x → Found k n x
+  find_lowest k zero x h = cc
+  find_lowest k (suc n) x h = go (f k) refl h (find_lowest (k + 1) n x)
+    where
+      go : (b : Bool) → f k ≡ b → cond b (Some k) (find f (range_with_len (k + 1) n)) ≡ Some x → (find f (range_with_len (k + 1) n) ≡ Some x → Found (k + 1) n x) → Found k (suc n) x
+      go true t h ih = let e : k ≡ x = cc in record { to = omega arith; here = ap f (sym e) ∙ t; ahead = λ y a b. absurd (let z : ⊥ = omega arith in z) }
+      go false t h ih = let r = ih h in record {
+        to = omega (arith, r.to);
+        here = r.here;
+        ahead = λ y a b. ⊎_elim (λ (e : k ≡ y). ap f (sym e) ∙ t) (⊎_elim (λ (l : k < y). r.ahead y (omega arith) b) (λ (l : y < k). absurd (let z : ⊥ = omega arith in z))) (cases_order k y);
+      }
+
+  pub all_each : (xs : List ℕ) → list_all f xs ≡ true → (x : ℕ) → Mem x xs → f x ≡ true
+  all_each [] h x m = absurd m
+  all_each (y ∷ xs) h x (inl e) = ap f e ∙ (and_parts (f y) (list_all f xs) h).0
+  all_each (y ∷ xs) h x (inr m) = all_each xs (and_parts (f y) (list_all f xs) h).1 x m
+
+  pub all_from : (xs : List ℕ) → ((x : ℕ) → f x ≡ true) → list_all f xs ≡ true
+  all_from [] h = refl
+  all_from (y ∷ xs) h = rw h (all_from xs h)
+
+  pub kept_passes : (xs : List ℕ) (x : ℕ) → Mem x (filter f xs) → f x ≡ true
+  kept_passes [] x m = absurd m
+  kept_passes (y ∷ xs) x m = go (f y) refl m (kept_passes xs x)
+    where
+      go : (b : Bool) → f y ≡ b → Mem x (cond b (y ∷ filter f xs) (filter f xs)) → (Mem x (filter f xs) → f x ≡ true) → f x ≡ true
+      go true t (inl e) ih = ap f e ∙ t
+      go true t (inr m) ih = ih m
+      go false t m ih = ih m
+
+  pub passes_kept : (xs : List ℕ) (x : ℕ) → Mem x xs → f x ≡ true → Mem x (filter f xs)
+  passes_kept [] x m p = absurd m
+  passes_kept (y ∷ xs) x (inl e) p = let t : f y ≡ true = ap f (sym e) ∙ p in rw t (inl e)
+  passes_kept (y ∷ xs) x (inr m) p = go (f y) (passes_kept xs x m p)
+    where
+      go : (b : Bool) → Mem x (filter f xs) → Mem x (cond b (y ∷ filter f xs) (filter f xs))
+      go true k = inr k
+      go false k = k
 
 module _ {S : Type 0} (next : S → Option ℕ) (add : S → ℕ → S) where
   repeat_on : (n : ℕ) (s : S) (x : ℕ) → next s ≡ Some x → repeat next add (suc n) s ≡ repeat next add n (add s x)

@@ -1,40 +1,46 @@
 -- How the rules for one chart are checked: a definition for each function of the code.
-use Rattle.std.specs.Prelude.{ℕ, zero, suc, ◌+◌, Bool, true, false, cond, List, [], ◌∷◌, length, take, replicate, Some, None, Option, ◌==◌, nat_le, nat_lt, slice_index, slice_index_or, slice_set}
+use Rattle.std.specs.Prelude.{ℕ, ◌+◌, Bool, true, false, cond, List, [], ◌∷◌, length, take, replicate, filter, fold, Some, None, Option, ◌==◌, nat_le, nat_lt, slice_index, slice_set}
+use Rattle.std.specs.List.{find, flat_map, list_all, range_with_len, slice_get}
+use Rattle.std.specs.Option.{option_map_or}
 use Rattle.std.specs.Str.{bytes_eq}
-use Rattle.msc.specs.Events.{out_to, in_from, picked}
+use Rattle.msc.specs.Events.{out_to, in_from}
 use Rattle.msc.specs.declared.event.Event.{Event}
 use Rattle.msc.specs.declared.event.Event.TheVariants.{Out, In, Action}
-use Rattle.order.specs.Scans.{lowest, all, repeat}
+use Rattle.order.specs.Scans.{repeat}
 use Rattle.order.specs.declared.leaders.Leaders.{Leaders}
 use Rattle.order.specs.declared.leaders.Leaders.TheVariants.{Nobody, One, Several}
 
+-- those that may have a part in a chart
+abbrev pub instances : List ℕ
+instances = range_with_len 0 8
+
 -- the messages from p to q: the outs in one part, the ins in the other
 abbrev pub agree : List Event → ℕ → List Event → ℕ → Bool
-agree outs q ins p = bytes_eq (picked (out_to q) outs) (picked (in_from p) ins)
+agree outs q ins p = bytes_eq (flat_map (out_to q) outs) (flat_map (in_from p) ins)
 
 module _ (parts : ℕ → List Event) where
   abbrev pub pair_matches : ℕ → ℕ → Bool
   pair_matches p q = agree (parts p) q (parts q) p
 
   abbrev pub sends_match : ℕ → Bool
-  sends_match p = all (pair_matches p) 0 8
+  sends_match p = list_all (pair_matches p) instances
 
   abbrev pub is_matched : Bool
-  is_matched = all sends_match 0 8
+  is_matched = list_all sends_match instances
 
   -- the chart is played greedily; `done` has the number of events done of each part
   -- an in can be played if more such messages are sent than received
   abbrev pub playable : List ℕ → ℕ → Event → Bool
   playable done i (Out n q) = true
-  playable done i (In n p) = nat_lt (length (picked (in_from p) (take (slice_index done i) (parts i)))) (length (picked (out_to i) (take (slice_index done p) (parts p))))
+  playable done i (In n p) = nat_lt (length (flat_map (in_from p) (take (slice_index done i) (parts i)))) (length (flat_map (out_to i) (take (slice_index done p) (parts p))))
   playable done i (Action n) = true
 
   -- the next event of i, if there is one, can be played
   abbrev pub can_play : List ℕ → ℕ → Bool
-  can_play done i = cond (nat_lt (slice_index done i) (length (parts i))) (playable done i (slice_index_or (parts i) (slice_index done i) (Out 0 0))) false
+  can_play done i = option_map_or (playable done i) (slice_get (parts i) (slice_index done i)) false
 
   abbrev pub ready : List ℕ → Option ℕ
-  ready done = lowest (can_play done) 0 8
+  ready done = find (can_play done) instances
 
   abbrev pub advanced : List ℕ → ℕ → List ℕ
   advanced done i = slice_set done i (slice_index done i + 1)
@@ -47,7 +53,7 @@ module _ (parts : ℕ → List Event) where
   is_played done i = nat_le (length (parts i)) (slice_index done i)
 
   abbrev pub is_finished : List ℕ → Bool
-  is_finished done = all (is_played done) 0 8
+  is_finished done = list_all (is_played done) instances
 
   abbrev pub is_listable : Bool
   is_listable = is_finished played
@@ -70,13 +76,11 @@ joined_by (One j) i = cond (j == i) (One j) Several
 joined_by Several i = Several
 
 abbrev pub gathered : Leaders → List ℕ → Leaders
-gathered a [] = a
-gathered a (i ∷ is) = gathered (joined_by a i) is
+gathered a is = fold joined_by a is
 
--- of the n instances from k on, those whose part starts with no in
-unfoldable pub starters : (ℕ → List Event) → ℕ → ℕ → List ℕ
-starters parts k zero = []
-starters parts k (suc n) = cond (starts (parts k)) (k ∷ starters parts (suc k) n) (starters parts (suc k) n)
+-- those whose part starts with no in
+abbrev pub starters : (ℕ → List Event) → List ℕ
+starters parts = filter (λ i. starts (parts i)) instances
 
 abbrev pub is_one : Leaders → Bool
 is_one Nobody = false

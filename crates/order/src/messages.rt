@@ -1,4 +1,4 @@
-// Messages of events between two instances.
+// Messages of events between two instances. Two functions, since each is one case of an event: one for both would take the case as a parameter and match on it as well.
 ghost use Rattle.std.specs.Prelude.{◌≡◌};
 ghost use Rattle.std.specs.Option.{option_to_list};
 ghost use Rattle.msc.specs.Events.{in_from, out_to};
@@ -10,9 +10,8 @@ pub fn out_to(event: Event, receiver: u8) -> Option<u8>
     ensures { option_to_list result ≡ out_to receiver event }
 {
     match event {
-        Event::Out { name, to } => { if to == receiver { Some(name) } else { None } }
-        Event::In { name: _, from: _ } => None,
-        Event::Action { name: _ } => None,
+        Event::Out { name, to } if to == receiver => Some(name),
+        _ => None,
     }
 }
 
@@ -21,8 +20,7 @@ pub fn in_from(event: Event, sender: u8) -> Option<u8>
     ensures { option_to_list result ≡ in_from sender event }
 {
     match event {
-        Event::Out { name: _, to: _ } => None,
-        Event::In { name, from } => { if from == sender { Some(name) } else { None } }
-        Event::Action { name: _ } => None,
+        Event::In { name, from } if from == sender => Some(name),
+        _ => None,
     }
 }

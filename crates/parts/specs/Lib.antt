@@ -1,2 +1,2 @@
-pub mod Numbering
 pub mod Turns
+pub mod Readings

@@ -1,1 +1,2 @@
 mod Regroup
+mod Exits

@@ -1,73 +1,100 @@
--- The pieces make up the forms of a text.
-use Rattle.std.proofs.Common.{◌≡◌, ℕ, ◌<◌, ◌≤◌, true, leb, List, length, drop, Ok, Err, Result, sym, refl, ap, ◌∙◌, subst, arith, le-leb, MatchResult}
-use borrow.Author.Tests.{lt-leb}
-use Rattle.std.proofs.lemmas.Bool.{cond-true, cond-false}
-use Rattle.msc.specs.Doc.{Doc}
-use Rattle.msc.specs.Sound.{well_formed, most}
-use Rattle.msc.specs.declared.symbol.Symbol.TheVariants.{Semi}
-use Rattle.msc.specs.declared.words.Keyword.TheVariants as keyword
-use Rattle.lexis.specs.Lexing.{name_at, word_at, sign_at}
+-- Steps one after the other: what a text's pieces come to makes up what the text comes to.
+use Rattle.std.proofs.Common.{◌≡◌, ℕ, List, refl, ap, ◌∙◌}
 use Rattle.lexis.specs.Steps.{Step, got, bad, and_then}
-use Rattle.lexis.specs.Readers.{step_of}
-use Rattle.lexis.specs.declared.reader.Reader.{Reader}
 use Rattle.lexis.specs.declared.refusal.Refusal.{Refusal}
-use Rattle.lexis.specs.declared.refusal.Refusal.TheVariants.{TooLong}
-use Rattle.graph.specs.Told.{told}
-use Rattle.forms.specs.Reading.{Read, instances_at, charts_at, graph_at, forms_at, finish, read_of}
-use Rattle.forms.specs.Writes.{Writes}
-use Rattle.forms.proofs.Facts.{to_facts}
-use Rattle.forms.proofs.ReadsGraph.{reads}
-use Rattle.reading.specs.Pieces.{head_at, body_at, tail_at, text_at}
 
 -- steps may be grouped either way
 regroup : {A B C : Type 0} (m : Step A) (k : A → ℕ → List ℕ → Step B) (l : B → ℕ → List ℕ → Step C) → and_then (and_then m k) l ≡ and_then m (λ a p s. and_then (k a p s) l)
 regroup (got a p s) k l = refl
 regroup (bad e) k l = refl
 
--- a call that was refused, handed on
-pub handed : {X A : Type 0} (f : X → A) (r : Result X Refusal) (after : Reader) (d e : Refusal) (whole : Step A) → r ≡ Err d → d ≡ e → bad e ≡ whole → step_of f r after ≡ whole
-handed f r after d e whole is same h = ap (λ x. step_of f x after) (is ∙ ap Err same) ∙ h
-
 -- the same continuation behind steps that come to the same
 then : {A B : Type 0} (m : Step A) (k l : A → ℕ → List ℕ → Step B) → ((a : A) (p : ℕ) (s : List ℕ) → k a p s ≡ l a p s) → and_then m k ≡ and_then m l
 then (got a p s) k l h = h a p s
 then (bad e) k l h = refl
 
--- the pieces make up the forms of a text, whatever the steps are
-pieces : {A B C D E F : Type 0} (word : ℕ → List ℕ → Step A) (name : ℕ → List ℕ → Step (B × ℕ)) (semi : ℕ → List ℕ → Step C) (insts : ℕ → List ℕ → Step D) (charts : D → ℕ → List ℕ → Step (E × B)) (graph : B → E → B → ℕ → List ℕ → Step F)
-    (p : ℕ) (s : List ℕ)
-    → and_then (and_then (word p s) λ _ p s. and_then (name p s) λ n p s. and_then (semi p s) λ _ p s. got n.0 p s) (λ t p s. and_then (and_then (insts p s) λ d p s. charts d p s) λ e p s. graph t e.0 e.1 p s)
-    ≡ and_then (word p s) (λ _ p s. and_then (name p s) λ n p s. and_then (semi p s) λ _ p s. and_then (insts p s) λ d p s. and_then (charts d p s) λ e p s. graph n.0 e.0 e.1 p s)
-pieces word name semi insts charts graph p s =
+-- what stands ahead of the instances, whatever the steps are
+ahead : {A B C D : Type 0} (word : ℕ → List ℕ → Step A) (name : ℕ → List ℕ → Step (B × ℕ)) (semi : ℕ → List ℕ → Step C) (k : B → ℕ → List ℕ → Step D) (p : ℕ) (s : List ℕ)
+    → and_then (and_then (word p s) λ _ p s. and_then (name p s) λ n p s. and_then (semi p s) λ _ p s. got n.0 p s) k
+    ≡ and_then (word p s) (λ _ p s. and_then (name p s) λ n p s. and_then (semi p s) λ _ p s. k n.0 p s)
+ahead word name semi k p s =
     regroup (word p s) _ _
     ∙ then (word p s) _ _ (λ a p s. regroup (name p s) _ _
-    ∙ then (name p s) _ _ (λ n p s. regroup (semi p s) _ _
-    ∙ then (semi p s) _ _ (λ b p s. regroup (insts p s) _ _)))
+    ∙ then (name p s) _ _ (λ n p s. regroup (semi p s) _ _))
 
-pub text_forms : (ws : List (List ℕ)) (p : ℕ) (s : List ℕ) → text_at ws p s ≡ forms_at ws p s
-unfolding text_at head_at body_at tail_at
-text_forms ws p s = pieces (word_at ws keyword.Mscdocument) (name_at ws) (sign_at ws Semi) (instances_at ws) (charts_at ws) (graph_at ws) p s
+-- what stands behind the charts, likewise
+behind : {A B C D E F : Type 0} (list : ℕ → List ℕ → Step A) (lines : ℕ → List ℕ → Step B) (semi : ℕ → List ℕ → Step C) (word : ℕ → List ℕ → Step D) (end : ℕ → List ℕ → Step E) (f : A × B → F) (p : ℕ) (s : List ℕ)
+    → and_then (and_then (list p s) λ a p s. and_then (lines p s) λ b p s. and_then (semi p s) λ _ p s. and_then (word p s) λ _ p s. and_then (semi p s) λ _ p s. and_then (end p s) λ _ p s. got (a, b) p s) (λ g p s. got (f g) p s)
+    ≡ and_then (list p s) (λ a p s. and_then (lines p s) λ b p s. and_then (semi p s) λ _ p s. and_then (word p s) λ _ p s. and_then (semi p s) λ _ p s. and_then (end p s) λ _ p s. got (f (a, b)) p s)
+behind list lines semi word end f p s =
+    regroup (list p s) _ _
+    ∙ then (list p s) _ _ (λ a p s. regroup (lines p s) _ _
+    ∙ then (lines p s) _ _ (λ b p s. regroup (semi p s) _ _
+    ∙ then (semi p s) _ _ (λ _ p s. regroup (word p s) _ _
+    ∙ then (word p s) _ _ (λ _ p s. regroup (semi p s) _ _
+    ∙ then (semi p s) _ _ (λ _ p s. regroup (end p s) _ _)))))
 
-pub handed_on : {X A : Type 0} (f : X → A) (r : Result X Refusal) (d e : Refusal) (whole : Result A Refusal) → r ≡ Err d → d ≡ e → Err e ≡ whole → told f r ≡ whole
-handed_on f r d e whole is same h = ap (told f) (is ∙ ap Err same) ∙ h
+-- all of a text, likewise
+pub whole : {A B C D E G H I J F : Type 0} (word : ℕ → List ℕ → Step A) (name : ℕ → List ℕ → Step (B × ℕ)) (semi : ℕ → List ℕ → Step C) (insts : ℕ → List ℕ → Step D) (charts : D → ℕ → List ℕ → Step E)
+    (list : ℕ → List ℕ → Step G) (lines : E → ℕ → List ℕ → Step H) (word' : ℕ → List ℕ → Step I) (end : ℕ → List ℕ → Step J) (f : B → E → G × H → F) (p : ℕ) (s : List ℕ)
+    → and_then (and_then (word p s) λ _ p s. and_then (name p s) λ n p s. and_then (semi p s) λ _ p s. got n.0 p s) (λ t p s. and_then (insts p s) λ d p s. and_then (charts d p s) λ e p s.
+    and_then (and_then (list p s) λ a p s. and_then (lines e p s) λ b p s. and_then (semi p s) λ _ p s. and_then (word' p s) λ _ p s. and_then (semi p s) λ _ p s. and_then (end p s) λ _ p s. got (a, b) p s) (λ g p s. got (f t e g) p s))
+    ≡ and_then (word p s) (λ _ p s. and_then (name p s) λ n p s. and_then (semi p s) λ _ p s. and_then (insts p s) λ d p s. and_then (charts d p s) λ e p s.
+    and_then (list p s) λ a p s. and_then (lines e p s) λ b p s. and_then (semi p s) λ _ p s. and_then (word' p s) λ _ p s. and_then (semi p s) λ _ p s. and_then (end p s) λ _ p s. got (f n.0 e (a, b)) p s)
+whole word name semi insts charts list lines word' end f p s =
+    ahead word name semi (λ t p s. and_then (insts p s) λ d p s. and_then (charts d p s) λ e p s.
+    and_then (and_then (list p s) λ a p s. and_then (lines e p s) λ b p s. and_then (semi p s) λ _ p s. and_then (word' p s) λ _ p s. and_then (semi p s) λ _ p s. and_then (end p s) λ _ p s. got (a, b) p s) (λ g p s. got (f t e g) p s)) p s
+    ∙ then (word p s) _ _ (λ _ p s. then (name p s) _ _ (λ n p s. then (semi p s) _ _ (λ _ p s. then (insts p s) _ _ (λ d p s. then (charts d p s) _ _ (λ e p s.
+    behind list (lines e) semi word' end (f n.0 e) p s)))))
 
--- what a reader at the front of a text came to, with labels looked up, is what reading the text means
-pub read_is : (ws : List (List ℕ)) (text t : List ℕ) (at : ℕ) (m : Step Read) → length text ≤ most → t ≡ text → at ≡ 0 → m ≡ text_at ws at (drop at t) → finish ws m ≡ read_of ws text
-unfolding read_of
-read_is ws text t at m h e z is =
-    ap (finish ws) (is ∙ ap (λ q. text_at ws q (drop q t)) z ∙ ap (text_at ws 0) e ∙ text_forms ws 0 text)
-    ∙ sym (cond-true (leb (length text) most) (finish ws (forms_at ws 0 text)) (Err TooLong) (le-leb (length text) most h))
+-- four pieces, each under words us at a place p of a text whose rest is s; the words stay as they are
+module _ {T D M F : Type 0} (head : List (List ℕ) → ℕ → List ℕ → Step T) (insts : List (List ℕ) → ℕ → List ℕ → Step D) (charts : List (List ℕ) → D → ℕ → List ℕ → Step (D × T)) (tail : List (List ℕ) → List (List ℕ) → ℕ → List ℕ → Step M) (names : D → List (List ℕ)) (f : T → D × T → M → F) where
+  unfoldable pub chain : List (List ℕ) → ℕ → List ℕ → Step F
+  chain us p s =
+      and_then (head us p s) λ t p s.
+      and_then (insts us p s) λ d p s.
+      and_then (charts us d p s) λ e p s.
+      and_then (tail us (names e.0) p s) λ g p s.
+      got (f t e g) p s
 
-pub too_long : (ws : List (List ℕ)) (text : List ℕ) → most < length text → Err TooLong ≡ read_of ws text
-unfolding read_of
-too_long ws text h = sym (cond-false (leb (length text) most) (finish ws (forms_at ws 0 text)) (Err TooLong) (lt-leb (length text) most h))
+  module _ (us : List (List ℕ)) (p : ℕ) (s : List ℕ) where
+    at_head : (m : Step T) → m ≡ head us p s → and_then m (λ t p s. and_then (insts us p s) λ d p s. and_then (charts us d p s) λ e p s. and_then (tail us (names e.0) p s) λ g p s. got (f t e g) p s) ≡ chain us p s
+    unfolding chain
+    at_head m h = ap (λ m. and_then m (λ t p s. and_then (insts us p s) λ d p s. and_then (charts us d p s) λ e p s. and_then (tail us (names e.0) p s) λ g p s. got (f t e g) p s)) h
 
--- of a refusal, what is said of refusals
-pub by_err : {X : Type 0} (r : Result X Refusal) (d e : Refusal) (P : X → Type 0) (Q : Refusal → Type 0) → r ≡ Err d → d ≡ e → Q e → MatchResult r P Q
-by_err r d e P Q is same q = subst (λ x. MatchResult x P Q) (sym (is ∙ ap Err same)) q
+    pub bad_head : (e : Refusal) → bad e ≡ head us p s → bad e ≡ chain us p s
+    bad_head e h = at_head (bad e) h
 
--- a text that is refused writes no document
-pub writes_none : (ws : List (List ℕ)) (text : List ℕ) (e : Refusal) → Err e ≡ read_of ws text → (d : Doc) → length text ≤ most → well_formed d ≡ true → d.words ≡ ws → Writes text d → ⊥
-writes_none ws text e h d le well same w =
-    let ok : read_of ws text ≡ Ok d = ap (λ x. read_of x text) (sym same) ∙ reads d (to_facts d well).0 text le w in
-    let z : ◌≡◌ {A = ℕ} 0 1 = cc in omega arith
+    module _ (t : T) (us1 : List (List ℕ)) (p1 : ℕ) (s1 : List ℕ) (h : got t p1 s1 ≡ head us p s) (w1 : us1 ≡ us) where
+      at_insts : (m : Step D) → m ≡ insts us1 p1 s1 → and_then m (λ d p s. and_then (charts us1 d p s) λ e p s. and_then (tail us1 (names e.0) p s) λ g p s. got (f t e g) p s) ≡ chain us p s
+      at_insts m i =
+          ap (λ m. and_then m (λ d p s. and_then (charts us1 d p s) λ e p s. and_then (tail us1 (names e.0) p s) λ g p s. got (f t e g) p s)) i
+          ∙ ap (λ vs. and_then (insts vs p1 s1) (λ d p s. and_then (charts vs d p s) λ e p s. and_then (tail vs (names e.0) p s) λ g p s. got (f t e g) p s)) w1
+          ∙ at_head (got t p1 s1) h
+
+      pub bad_insts : (e : Refusal) → bad e ≡ insts us1 p1 s1 → bad e ≡ chain us p s
+      bad_insts e i = at_insts (bad e) i
+
+      module _ (d : D) (us2 : List (List ℕ)) (p2 : ℕ) (s2 : List ℕ) (i : got d p2 s2 ≡ insts us1 p1 s1) (w2 : us2 ≡ us1) where
+        at_charts : (m : Step (D × T)) → m ≡ charts us2 d p2 s2 → and_then m (λ e p s. and_then (tail us2 (names e.0) p s) λ g p s. got (f t e g) p s) ≡ chain us p s
+        at_charts m c =
+            ap (λ m. and_then m (λ e p s. and_then (tail us2 (names e.0) p s) λ g p s. got (f t e g) p s)) c
+            ∙ ap (λ vs. and_then (charts vs d p2 s2) (λ e p s. and_then (tail vs (names e.0) p s) λ g p s. got (f t e g) p s)) w2
+            ∙ at_insts (got d p2 s2) i
+
+        pub bad_charts : (e : Refusal) → bad e ≡ charts us2 d p2 s2 → bad e ≡ chain us p s
+        bad_charts e c = at_charts (bad e) c
+
+        module _ (b : D) (w : T) (us3 : List (List ℕ)) (p3 : ℕ) (s3 : List ℕ) (c : got (b, w) p3 s3 ≡ charts us2 d p2 s2) (w3 : us3 ≡ us2) (ns : List (List ℕ)) (are : ns ≡ names b) where
+          at_tail : (m : Step M) → m ≡ tail us3 ns p3 s3 → and_then m (λ g p s. got (f t (b, w) g) p s) ≡ chain us p s
+          at_tail m g =
+              ap (λ m. and_then m (λ g p s. got (f t (b, w) g) p s)) g
+              ∙ ap (λ n. and_then (tail us3 n p3 s3) (λ g p s. got (f t (b, w) g) p s)) are
+              ∙ ap (λ vs. and_then (tail vs (names b) p3 s3) (λ g p s. got (f t (b, w) g) p s)) w3
+              ∙ at_charts (got (b, w) p3 s3) c
+
+          pub bad_tail : (e : Refusal) → bad e ≡ tail us3 ns p3 s3 → bad e ≡ chain us p s
+          bad_tail e g = at_tail (bad e) g
+
+          pub got_tail : (g : M) (p4 : ℕ) (s4 : List ℕ) → got g p4 s4 ≡ tail us3 ns p3 s3 → got (f t (b, w) g) p4 s4 ≡ chain us p s
+          got_tail g p4 s4 l = at_tail (got g p4 s4) l

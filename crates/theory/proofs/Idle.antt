@@ -9,7 +9,7 @@ use Rattle.theory.specs.Cuts.{ahead, Consistent, queue, waiting, BeginsIn}
 use Rattle.theory.specs.Given.{Paired}
 use Rattle.theory.specs.Letters.{Tag, tag, tags, outs_to, ins_from, Header, Letter, header_of}
 use Rattle.theory.specs.Projection.{Placed, at, placed, takes, up_to, proj_from, proj, turn, turns_at}
-use Rattle.theory.proofs.Lists.{no_cons, flat_map-++}
+use Rattle.std.proofs.lemmas.Grind.{flat_map-append}
 use Rattle.theory.proofs.Longer.{turn-++}
 use Rattle.theory.proofs.Projections.{tags-placed, proj_from-++}
 use Rattle.theory.proofs.Queues.{queue_law, in_picked, waiting_headers}
@@ -29,8 +29,8 @@ module _ (part : ℕ → ℕ → List Event) where
 
   tagged : (p i j : ℕ) (Q : List ℕ) (m l n : ℕ) (ts : List Tag) → ins_from p (proj_from part j Q i) ≡ tag m l n ∷ ts → At j Q m l
   unfolding At
-  tagged p i j [] m l n ts h = absurd (no_cons _ ts h)
-  tagged p i j (l' ∷ Q) m l n ts h = go (picked (in_from p) (part l' i)) (sym (flat_map-++ (tags (in_from p)) (placed j l' i 0 (part l' i)) (proj_from part (suc j) Q i) ∙ ap (λ r. r ++ ins_from p (proj_from part (suc j) Q i)) (tags-placed (in_from p) j l' i 0 (part l' i))) ∙ h) (tagged p i (suc j) Q m l n ts)
+  tagged p i j [] m l n ts h = cc
+  tagged p i j (l' ∷ Q) m l n ts h = go (picked (in_from p) (part l' i)) (sym (flat_map-append (tags (in_from p)) (placed j l' i 0 (part l' i)) (proj_from part (suc j) Q i) ∙ ap (λ r. r ++ ins_from p (proj_from part (suc j) Q i)) (tags-placed (in_from p) j l' i 0 (part l' i))) ∙ h) (tagged p i (suc j) Q m l n ts)
     where
       go : (u : List ℕ) → map (tag j l') u ++ ins_from p (proj_from part (suc j) Q i) ≡ tag m l n ∷ ts
           → (ins_from p (proj_from part (suc j) Q i) ≡ tag m l n ∷ ts → At (suc j) Q m l) → At j (l' ∷ Q) m l
@@ -49,7 +49,7 @@ module _ (part : ℕ → ℕ → List Event) where
 
   -- places do not fall
   pub from : (i j : ℕ) (Q : List ℕ) (m k l : ℕ) (v : Event) (xs : List Placed) → proj_from part j Q i ≡ at (occ m (spot i k)) l v ∷ xs → j ≤ m
-  from i j [] m k l v xs h = absurd (no_cons _ xs h)
+  from i j [] m k l v xs h = cc
   from i j (l' ∷ Q) m k l v xs h = go (part l' i) h (from i (suc j) Q m k l v xs)
     where
       go : (es : List Event) → placed j l' i 0 es ++ proj_from part (suc j) Q i ≡ at (occ m (spot i k)) l v ∷ xs → (proj_from part (suc j) Q i ≡ at (occ m (spot i k)) l v ∷ xs → suc j ≤ m) → j ≤ m
@@ -118,7 +118,7 @@ module _ (part : ℕ → ℕ → List Event) (H : Paired part) (P : List ℕ) (e
       heads = sym (ap (map (λ (u : Letter F). u.header)) w) ∙ waiting_headers part P freight e p i
 
       go : (u : List Tag) → queue part P e p i ≡ u → Rule t.header
-      go [] h = absurd (no_cons t.header _ (sym (heads ∙ ap (map (header_of part P)) h)))
+      go [] h = cc (heads ∙ ap (map (header_of part P)) h)
       go (tag m l n ∷ u) h =
           let z : t.header ∷ map (λ (u : Letter F). u.header) ts ≡ header_of part P (tag m l n) ∷ map (header_of part P) u = heads ∙ ap (map (header_of part P)) h in
           let t_is : header_of part P (tag m l n) ≡ t.header = cc in

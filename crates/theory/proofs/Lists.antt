@@ -1,14 +1,8 @@
 -- Laws of plain lists.
-use Rattle.std.proofs.Common.{◌≡◌, ℕ, zero, suc, ◌<◌, ◌≤◌, List, [], ◌∷◌, ◌++◌, length, take, drop, sym, refl, ap, ◌∙◌, append_assoc, arith, length-append, length-drop, take-append-drop, take-take}
+use Rattle.std.proofs.Common.{◌≡◌, ℕ, zero, suc, ◌<◌, ◌≤◌, List, [], ◌∷◌, ◌++◌, length, take, drop, sym, refl, ap, ◌∙◌, arith, length-append, length-drop, take-append-drop, take-take}
 use lib.Seq.{drop-append-le, drop-append_seam}
 use Rattle.std.specs.List.{flat_map}
-
-pub no_cons : {A : Type 0} (x : A) (xs : List A) → [] ≡ x ∷ xs → ⊥
-no_cons x xs h = let z : ◌≡◌ {A = ℕ} 0 1 = cc in omega arith
-
-pub no_mid : {A : Type 0} (C : List A) (a : A) (B : List A) → [] ≡ C ++ a ∷ B → ⊥
-no_mid [] a B h = no_cons a B h
-no_mid (c ∷ C) a B h = no_cons c (C ++ a ∷ B) h
+use Rattle.std.proofs.lemmas.Grind.{flat_map-append}
 
 pub drop-has : {A : Type 0} (k : ℕ) (xs : List A) → k < length xs → (x : A) × (ys : List A) × (drop k xs ≡ x ∷ ys)
 drop-has k [] h = absurd (let z : ⊥ = omega arith in z)
@@ -17,12 +11,6 @@ drop-has (suc k) (x ∷ xs) h = drop-has k xs (omega arith)
 
 pub drop_lt : {A : Type 0} (k : ℕ) (xs : List A) (x : A) (ys : List A) → drop k xs ≡ x ∷ ys → k < length xs
 drop_lt k xs x ys h = let n : length (drop k xs) ≡ suc (length ys) = ap length h in omega (arith, length-drop k xs)
-
-pub length-take-most : {A : Type 0} (k : ℕ) (xs : List A) → length (take k xs) ≤ k
-length-take-most zero [] = omega arith
-length-take-most (suc k) [] = omega arith
-length-take-most zero (x ∷ xs) = omega arith
-length-take-most (suc k) (x ∷ xs) = let r = length-take-most k xs in omega arith
 
 pub take_next : {A : Type 0} (xs : List A) (a : ℕ) (x : A) (ys : List A) → drop a xs ≡ x ∷ ys → take (suc a) xs ≡ take a xs ++ x ∷ []
 take_next [] zero x ys h = cc
@@ -41,12 +29,8 @@ drop_past (a ∷ ys) bs [] ds h = absurd (let z : ⊥ = omega arith in z)
 drop_past (a ∷ ys) bs (c ∷ cs) ds h = drop_past ys bs cs ds (omega arith)
 
 module _ {X A : Type 0} (f : X → List A) where
-  pub flat_map-++ : (xs ys : List X) → flat_map f (xs ++ ys) ≡ flat_map f xs ++ flat_map f ys
-  flat_map-++ [] ys = refl
-  flat_map-++ (x ∷ xs) ys = rw (flat_map-++ xs ys) (sym (append_assoc (f x) (flat_map f xs) (flat_map f ys)))
-
   pub joined_cut : (n : ℕ) (xs : List X) → flat_map f (take n xs) ++ flat_map f (drop n xs) ≡ flat_map f xs
-  joined_cut n xs = sym (flat_map-++ (take n xs) (drop n xs)) ∙ ap (flat_map f) (take-append-drop n xs)
+  joined_cut n xs = sym (flat_map-append f (take n xs) (drop n xs)) ∙ ap (flat_map f) (take-append-drop n xs)
 
   pub joined_mono : (a b : ℕ) (xs : List X) → a ≤ b → length (flat_map f (take a xs)) ≤ length (flat_map f (take b xs))
   joined_mono a b xs h =

@@ -12,7 +12,8 @@ use Rattle.theory.specs.Given.{Paired}
 use Rattle.theory.specs.Letters.{Tag, tag, tags, outs_to, ins_from, Letter, header_of, letter_of, posted, letters_to}
 use Rattle.theory.specs.Projection.{Placed, at, placed, proj_from, proj, pos}
 use Rattle.theory.proofs.Listings.{split_at, joined_same}
-use Rattle.theory.proofs.Lists.{no_cons, length-take-most, flat_map-++}
+use Rattle.std.proofs.lemmas.List.{length-take}
+use Rattle.std.proofs.lemmas.Grind.{flat_map-append}
 use Rattle.theory.proofs.Projections.{find, split, chart_mid, stands_mid, counted, outs-ins}
 use Rattle.theory.proofs.Queues.{queue_law, out_picked}
 
@@ -24,7 +25,7 @@ later_in : (p : ℕ) (x : Placed) (zs : List Placed) (j l n : ℕ) → tags (in_
 later_in p x zs j l n h r = (x ∷ r.0, r.1, r.2, ap (λ z. x ∷ z) r.3, rw (h, r.4))
 
 first_in : (p : ℕ) (zs : List Placed) (j l n : ℕ) (u : List Tag) → ins_from p zs ≡ tag j l n ∷ u → FirstIn p zs j l n
-first_in p [] j l n u h = absurd (no_cons (tag j l n) u h)
+first_in p [] j l n u h = cc
 first_in p (at (occ j' s) l' (Out m t) ∷ zs) j l n u h = later_in p (at (occ j' s) l' (Out m t)) zs j l n refl (first_in p zs j l n u h)
 first_in p (at (occ j' s) l' (Action m) ∷ zs) j l n u h = later_in p (at (occ j' s) l' (Action m)) zs j l n refl (first_in p zs j l n u h)
 first_in p (at (occ j' s) l' (In m t) ∷ zs) j l n u h = go (eqb t p) refl h (first_in p zs j l n u)
@@ -113,7 +114,7 @@ module _ (part : ℕ → ℕ → List Event) (P : List ℕ) where
           go : (us : List Placed) × (ws : List Placed) × (done part P e p ≡ us ++ at x l v ∷ ws) → posted part P freight q (at x l v) ≡ posted part P freight' q (at x l v)
           go (us, ws, d) =
               let S = placed_mid p us x l v (ws ++ ahead part P e p) (sym (take-append-drop (e p) (proj part P p)) ∙ ap (λ z. z ++ ahead part P e p) d ∙ append_assoc us (at x l v ∷ ws) (ahead part P e p)) in
-              let few : length us < e p = omega (arith, ap length d, length-append us (at x l v ∷ ws), length-take-most (e p) (proj part P p)) in
+              let few : length us < e p = omega (arith, ap length d, length-append us (at x l v ∷ ws), length-take (e p) (proj part P p)) in
               here x l v (subst (λ z. freight z ≡ freight' z) (sym S.is) (same (occ S.place (spot p S.number)) S.real (omega (arith, S.size))))
 
   module _ {F : Type 0} (freight : Occ → F) where
@@ -126,8 +127,8 @@ module _ (part : ℕ → ℕ → List Event) (P : List ℕ) where
     later_out q x zs c t h r = (x ∷ r.0, r.1, r.2, r.3, r.4, r.5, ap (λ z. x ∷ z) r.6, rw (h, r.7), r.8)
 
     nth_letter : (q : ℕ) (zs : List Placed) (c : ℕ) (t : Letter F) (ts : List (Letter F)) → drop c (letters_to part P freight q zs) ≡ t ∷ ts → Sent q zs c t
-    nth_letter q [] zero t ts h = absurd (no_cons t ts h)
-    nth_letter q [] (suc c) t ts h = absurd (no_cons t ts h)
+    nth_letter q [] zero t ts h = cc
+    nth_letter q [] (suc c) t ts h = cc
     nth_letter q (at (occ j s) l (In m p) ∷ zs) c t ts h = later_out q (at (occ j s) l (In m p)) zs c t refl (nth_letter q zs c t ts h)
     nth_letter q (at (occ j s) l (Action m) ∷ zs) c t ts h = later_out q (at (occ j s) l (Action m)) zs c t refl (nth_letter q zs c t ts h)
     nth_letter q (at (occ j s) l (Out m r) ∷ zs) c t ts h = go (eqb r q) refl c h (λ c' k. nth_letter q zs c' t ts k)
@@ -155,7 +156,7 @@ module _ (part : ℕ → ℕ → List Event) (P : List ℕ) where
           where
             law : ins_from p (ahead part P e q) ≡ tag j l n ∷ (outs_to q ws ++ outs_to q (ahead part P e p))
             law = sym (queue_law part H P e K p q) ∙ ap (λ z. z ++ outs_to q (ahead part P e p))
-                (ap (drop c) (ap (outs_to q) d ∙ flat_map-++ (tags (out_to q)) us (at (occ j s) l (Out n q) ∷ ws) ∙ ap (λ z. outs_to q us ++ z) (out_picked q j s l n ws))
+                (ap (drop c) (ap (outs_to q) d ∙ flat_map-append (tags (out_to q)) us (at (occ j s) l (Out n q) ∷ ws) ∙ ap (λ z. outs_to q us ++ z) (out_picked q j s l n ws))
                 ∙ ap (λ z. drop z (outs_to q us ++ tag j l n ∷ outs_to q ws)) (sym u_size) ∙ drop-append_seam (outs_to q us) (tag j l n ∷ outs_to q ws))
 
             whole_p : proj part P p ≡ us ++ at (occ j s) l (Out n q) ∷ (ws ++ ahead part P e p)
@@ -171,7 +172,7 @@ module _ (part : ℕ → ℕ → List Event) (P : List ℕ) where
                 whole_q = sym (take-append-drop (e q) (proj part P q)) ∙ ap (λ z. done part P e q ++ z) d' ∙ sym (append_assoc (done part P e q) xs (at (occ j s') l (In n p) ∷ ys))
 
                 v_size : length (ins_from p vs) ≡ c
-                v_size = rw (flat_map-++ (tags (in_from p)) (done part P e q) xs, quiet, append-nil)
+                v_size = rw (flat_map-append (tags (in_from p)) (done part P e q) xs, quiet, append-nil)
 
                 at_both : Stands p us (occ j s) l (Out n q) → Stands q vs (occ j s') l (In n p) → Own part P freight e p q t
                 at_both O I = record {

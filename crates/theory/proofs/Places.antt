@@ -146,8 +146,8 @@ module _ (m : Meaning) (G : Given m) where
             absurd (none (spot p o.0, before (occ (length A) (spot p o.0)) (drop_lt o.0 (chart_at (part m) P (length A) p) _ _ o.1.4, inr (refl, inr o.1))))
 
     -- where a place is begun, so is the one ahead: its leader has been there
-    begun_ahead : (C : List ℕ) (a l : ℕ) (B : List ℕ) → P ≡ C ++ a ∷ l ∷ B → (s : Spot) → Mem (occ (suc (length C)) s) xs → BegunPlace (length C) xs
-    begun_ahead C a l B p_is s h = go (first_with (λ x. place x ≡ suc (length C)) (λ x. ℕ_discrete (place x) (suc (length C))) xs (occ (suc (length C)) s) h refl)
+    begun-ahead : (C : List ℕ) (a l : ℕ) (B : List ℕ) → P ≡ C ++ a ∷ l ∷ B → (s : Spot) → Mem (occ (suc (length C)) s) xs → BegunPlace (length C) xs
+    begun-ahead C a l B p_is s h = go (first_with (λ x. place x ≡ suc (length C)) (λ x. ℕ_discrete (place x) (suc (length C))) xs (occ (suc (length C)) s) h refl)
       where
         go : (ys : List Occ) × (y : Occ) × (zs : List Occ) × (xs ≡ ys ++ y ∷ zs) × (place y ≡ suc (length C)) × ((z : Occ) → Mem z ys → place z ≡ suc (length C) → ⊥) → BegunPlace (length C) xs
         go (ys, occ j (spot i k), zs, x_is, j_is, none) =
@@ -166,7 +166,7 @@ module _ (m : Meaning) (G : Given m) where
             (λ e. absurd (let z : ⊥ = omega (arith, ap length e) in z))
             (λ r. let C = r.0 in let a = r.1 in
             let size : length C ≡ j = omega (arith, j_is, ap length r.2, length-append C (a ∷ [])) in
-            subst (λ z. BegunPlace z xs) size (begun_ahead C a l B (p_is ∙ ap (λ z. z ++ l ∷ B) r.2 ∙ append_assoc C (a ∷ []) (l ∷ B)) (spot i k) (subst (λ z. Mem (occ (suc z) (spot i k)) xs) (sym size) h)))
+            subst (λ z. BegunPlace z xs) size (begun-ahead C a l B (p_is ∙ ap (λ z. z ++ l ∷ B) r.2 ∙ append_assoc C (a ∷ []) (l ∷ B)) (spot i k) (subst (λ z. Mem (occ (suc z) (spot i k)) xs) (sym size) h)))
             (last_of A)
 
     -- begun places are a first portion of the path

@@ -11,7 +11,8 @@ use Rattle.msc.specs.declared.event.Event.{Event}
 use Rattle.theory.specs.Given.{Paired}
 use Rattle.theory.specs.Letters.{tag, tags, outs_to, ins_from}
 use Rattle.theory.specs.Projection.{Placed, at, placed, proj_from, proj, pos}
-use Rattle.theory.proofs.Lists.{flat_map-++, drop-has}
+use Rattle.theory.proofs.Lists.{drop-has}
+use Rattle.std.proofs.lemmas.Grind.{flat_map-append}
 
 pub placed-length : (j l i k : ℕ) (es : List Event) → length (placed j l i k es) ≡ length es
 placed-length j l i k [] = refl
@@ -47,7 +48,7 @@ module _ (part : ℕ → ℕ → List Event) where
   -- all messages out from p to q along a path are all messages in at q from p
   pub outs-ins_from : Paired part → (j : ℕ) (P : List ℕ) (p q : ℕ) → outs_to q (proj_from part j P p) ≡ ins_from p (proj_from part j P q)
   outs-ins_from h j [] p q = refl
-  outs-ins_from h j (l ∷ P) p q = simp (flat_map-++, tags-placed, h l p q, outs-ins_from h (suc j) P p q)
+  outs-ins_from h j (l ∷ P) p q = simp (flat_map-append, tags-placed, h l p q, outs-ins_from h (suc j) P p q)
 
   pub outs-ins : Paired part → (P : List ℕ) (p q : ℕ) → outs_to q (proj part P p) ≡ ins_from p (proj part P q)
   outs-ins h P p q = outs-ins_from h 0 P p q
@@ -69,7 +70,7 @@ module _ (part : ℕ → ℕ → List Event) where
   -- how many messages f picks ahead of that event
   pub counted : (f : Event → List ℕ) (A : List ℕ) (l : ℕ) (B : List ℕ) (i k : ℕ) → k ≤ length (part l i)
       → length (flat_map (tags f) (take (length (proj part A i) + k) (proj part (A ++ l ∷ B) i))) ≡ length (flat_map (tags f) (proj part A i)) + length (picked f (take k (part l i)))
-  counted f A l B i k h = rw (taken A l B i k h, flat_map-++, length-append, tags-placed, length-map)
+  counted f A l B i k h = rw (taken A l B i k h, flat_map-append, length-append, tags-placed, length-map)
 
   -- the events of a place come ahead of those of a later one
   pub mono : (m : ℕ) (P : List ℕ) (j j' i k : ℕ) → j < j' → k < length (chart_at part P j i) → length (proj_from part m (take j P) i) + k < length (proj_from part m (take j' P) i)

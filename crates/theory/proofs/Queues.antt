@@ -12,7 +12,8 @@ use Rattle.theory.specs.Cuts.{done, ahead, Consistent, queue, waiting}
 use Rattle.theory.specs.Given.{Paired}
 use Rattle.theory.specs.Letters.{Tag, tag, tags, outs_to, ins_from, Letter, header_of, letter_of, letters_to}
 use Rattle.theory.specs.Projection.{Placed, at, proj}
-use Rattle.theory.proofs.Lists.{cut, flat_map-++, joined_cut, joined_mono, take_next}
+use Rattle.theory.proofs.Lists.{cut, joined_cut, joined_mono, take_next}
+use Rattle.std.proofs.lemmas.Grind.{flat_map-append}
 use Rattle.theory.proofs.Projections.{outs-ins}
 
 pub in_picked : (p j : ℕ) (s : Spot) (l n : ℕ) (xs : List Placed) → ins_from p (at (occ j s) l (In n p) ∷ xs) ≡ tag j l n ∷ ins_from p xs
@@ -36,7 +37,7 @@ module _ (part : ℕ → ℕ → List Event) (H : Paired part) (P : List ℕ) (e
       → (a < e p) ↔ (0 < length (queue part P e p q))
   waits_iff p q a j s l n xs d c =
       let one : length (outs_to q (take (suc a) (proj part P p))) ≡ length (outs_to q (take a (proj part P p))) + 1
-      = rw (take_next (proj part P p) a (at (occ j s) l (Out n q)) xs d, flat_map-++, length-append, out_picked q j s l n []) in
+      = rw (take_next (proj part P p) a (at (occ j s) l (Out n q)) xs d, flat_map-append, length-append, out_picked q j s l n []) in
       let size : length (queue part P e p q) ≡ length (outs_to q (done part P e p)) - length (ins_from p (done part P e q))
       = length-drop (length (ins_from p (done part P e q))) (outs_to q (done part P e p)) in (
         λ h. omega (arith, joined_mono (tags (out_to q)) (suc a) (e p) (proj part P p) h),

@@ -10,7 +10,8 @@ use Rattle.msc.specs.declared.event.Event.TheVariants.{Out, In, Action}
 use Rattle.theory.specs.Cuts.{bump, done, ahead, Within, Consistent, queue, Ready, waiting}
 use Rattle.theory.specs.Letters.{Tag, tag, tags, outs_to, ins_from, Letter, posted, letters_to}
 use Rattle.theory.specs.Projection.{Placed, at, proj}
-use Rattle.theory.proofs.Lists.{take_next, flat_map-++, drop_past, drop_lt}
+use Rattle.theory.proofs.Lists.{take_next, drop_past, drop_lt}
+use Rattle.std.proofs.lemmas.Grind.{flat_map-append}
 use Rattle.theory.proofs.Queues.{letters_length, waiting_length}
 
 pub bump_le : (e : ℕ → ℕ) (i k : ℕ) → e k ≤ bump e i k
@@ -26,7 +27,7 @@ module _ (part : ℕ → ℕ → List Event) (P : List ℕ) (e : ℕ → ℕ) (i
   joined_bump f k = go (eqb k i) refl
     where
       go : (b : Bool) → eqb k i ≡ b → flat_map f (take (cond b (suc (e k)) (e k)) (proj part P k)) ≡ flat_map f (done part P e k) ++ cond b (f (at (occ j s) l v)) []
-      go true h = let w : k ≡ i = eqb-true k i h in rw w (rw (take_next (proj part P i) (e i) (at (occ j s) l v) xs N, flat_map-++, append-nil))
+      go true h = let w : k ≡ i = eqb-true k i h in rw w (rw (take_next (proj part P i) (e i) (at (occ j s) l v) xs N, flat_map-append, append-nil))
       go false h = rw append-nil
 
   pub step_within : Within part P e → Within part P (bump e i)

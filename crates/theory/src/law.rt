@@ -1,4 +1,4 @@
-// The laws of the order of events, by name.
+// The laws of the order of events, by name: what the functions answer that say them.
 #[derive(Clone, Copy)]
 pub enum Law {
     LongerPath,

@@ -1,81 +1,86 @@
 -- How the loops over a document's parts come to the tokens of its forms.
-use Rattle.std.proofs.Common.{◌≡◌, ℕ, zero, suc, ◌+◌, ◌≤◌, true, List, [], ◌∷◌, ◌++◌, map, length, get_or, drop, sym, refl, ap, ◌∙◌, add-one, arith}
-use Rattle.std.proofs.lemmas.List.{drop_all, nil_from_length}
+use Rattle.std.proofs.Common.{◌≡◌, ℕ, zero, suc, ◌+◌, ◌-◌, ◌<◌, ◌≤◌, ◌==◌, true, ⊎_elim, zero-add, List, [], ◌∷◌, ◌++◌, map, length, get_or, take, drop, sym, refl, ap, ◌∙◌, arith, add-one, append_assoc}
+use Rattle.std.proofs.lemmas.List.{take_all, append-nil, get_or_past}
 use Rattle.std.specs.List.{flat_map}
-use Rattle.msc.specs.Doc.{chart_names, label_names}
+use Rattle.msc.specs.Doc.{Doc, label_names, chart_names}
+use Rattle.msc.specs.Sound.{well_formed, chart}
+use Rattle.forms.proofs.Facts.{to_facts}
+use Rattle.forms.proofs.Names.{every_at}
+use Rattle.std.proofs.lemmas.Bool.{and_parts, cases_lt, eqb-true}
+use Rattle.msc.specs.Doc as doc
 use Rattle.msc.specs.Meaning.{no_chart}
-use Rattle.msc.specs.Rows.{name_of}
 use Rattle.msc.specs.Shortest.{block_tokens, part_tokens, parts_tokens, list_tokens}
-use Rattle.msc.specs.Stored.{cut, charts_from, label_of}
+use Rattle.msc.specs.Stored.{charts_from}
 use Rattle.msc.specs.Tokens.{name, word}
 use Rattle.msc.specs.declared.words.Keyword.TheVariants as keyword
 use Rattle.msc.specs.declared.chart.Chart.{Chart}
 use Rattle.msc.specs.declared.event.Event.{Event}
 use Rattle.msc.specs.declared.label.Label.{Label}
-use Rattle.writing.specs.Pens.{Page, on, penned}
-use Rattle.writing.specs.Walks.{alt_tokens}
-use Rattle.writing.proofs.Pages.{penned_append}
+use Rattle.writing.specs.Pens.{Page, with, penned}
+use Rattle.writing.specs.Walks.{alt_tokens, list_of}
+use Rattle.writing.proofs.Pages.{then_more}
 
-pub joined_map : {X Y A : Type 0} (f : Y → List A) (g : X → Y) (xs : List X) → flat_map (λ x. f (g x)) xs ≡ flat_map f (map g xs)
-joined_map f g [] = refl
-joined_map f g (x ∷ xs) = ap (λ l. f (g x) ++ l) (joined_map f g xs)
+-- a chart has eight parts
+pub few_parts : (d : Doc) → well_formed d ≡ true → (c : ℕ) → length (get_or d.charts c no_chart).parts ≤ 8
+few_parts d sound c = ⊎_elim inside past (cases_lt c (length d.charts))
+  where
+    inside : c < length d.charts → length (get_or d.charts c no_chart).parts ≤ 8
+    inside h =
+        let r = get_or d.charts c no_chart in
+        let t = every_at (chart (length d.instances)) d.charts c no_chart (to_facts d sound).0.charts h in
+        let eight : length r.parts ≡ 8 = eqb-true (length r.parts) 8 (and_parts (length r.parts == 8) _ t).0 in
+        omega arith
+
+    past : length d.charts ≤ c → length (get_or d.charts c no_chart).parts ≤ 8
+    past h = rw (get_or_past d.charts c no_chart h) (omega arith)
+
+-- a list is its first name, and then each name behind alt
+pub list_tokens_lem : (names : List (List ℕ)) (l : ℕ) (ls : List ℕ) → list_tokens names (l ∷ ls) ≡ name (get_or names l []) ∷ flat_map (alt_tokens names) ls
+list_tokens_lem names l [] = refl
+list_tokens_lem names l (m ∷ ls) = ap (λ ts. name (get_or names l []) ∷ (word keyword.Alt ∷ ts)) (list_tokens_lem names m ls)
+
+-- the names of labels are those of their rows
+pub label_names_map : (rows : List Label) → label_names rows ≡ map (λ (r : Label). r.name) rows
+label_names_map [] = refl
+label_names_map (r ∷ rows) = ap (λ l. r.name ∷ l) (label_names_map rows)
+
+-- a name, and then the names behind alt
+pub list_written : (ls others : List ℕ) (i : ℕ) (p q r : Page) → 1 ≤ length ls → others ≡ take (length ls - 1) (drop 1 ls) → length others ≤ i → q ≡ with p (name (get_or (label_names p.document.labels) (get_or ls 0 0) []))
+    → r ≡ penned q (flat_map (alt_tokens (label_names q.document.labels)) (take i others)) → r ≡ penned p (list_of p.document ls)
+list_written [] others i p q r h is end e f = absurd (omega arith)
+list_written (l ∷ ls) others i p q r h is end e f =
+    let all : take (length (l ∷ ls) - 1) ls ≡ ls = take_all (length (l ∷ ls) - 1) ls (omega arith) in
+    then_more (λ d. name (get_or (label_names d.labels) l []) ∷ []) (λ d. flat_map (alt_tokens (label_names d.labels)) ls) p q r e (f ∙ ap (λ ms. penned q (flat_map (alt_tokens (label_names q.document.labels)) ms)) (take_all i others end ∙ is ∙ all))
+    ∙ sym (ap (penned p) (list_tokens_lem (label_names p.document.labels) l ls))
 
 module _ (instances messages actions : List (List ℕ)) where
-  -- the parts from the k-th on begin with the k-th
-  parts_from : (j k : ℕ) (ps : List (List Event)) → parts_tokens instances messages actions j (drop k ps) ≡ part_tokens instances messages actions j (get_or ps k []) ++ parts_tokens instances messages actions (suc j) (drop (suc k) ps)
-  parts_from j zero [] = refl
-  parts_from j (suc k) [] = refl
-  parts_from j zero (p ∷ ps) = refl
-  parts_from j (suc k) (p ∷ ps) = parts_from j k ps
-
-  pub parts_item : (ws : List (List ℕ)) (i : ℕ) (ps : List (List Event)) (p q : Page) → q ≡ penned ws p (part_tokens instances messages actions i (get_or ps i []))
-      → penned ws q (parts_tokens instances messages actions (i + 1) (drop (i + 1) ps)) ≡ penned ws p (parts_tokens instances messages actions i (drop i ps))
-  parts_item ws i ps p q e =
-      ap (λ k. penned ws q (parts_tokens instances messages actions k (drop k ps))) (add-one i)
-      ∙ ap (λ (r : Page). penned ws r (parts_tokens instances messages actions (suc i) (drop (suc i) ps))) e
-      ∙ sym (penned_append ws p (part_tokens instances messages actions i (get_or ps i [])) (parts_tokens instances messages actions (suc i) (drop (suc i) ps)))
-      ∙ sym (ap (penned ws p) (parts_from i i ps))
-
-  pub parts_all : (ws : List (List ℕ)) (i : ℕ) (ps : List (List Event)) (p : Page) → length ps ≤ i → p ≡ penned ws p (parts_tokens instances messages actions i (drop i ps))
-  parts_all ws i ps p h = sym (ap (λ l. penned ws p (parts_tokens instances messages actions i l)) (drop_all i ps h))
+  -- the parts up to the k-th, and then the k-th
+  pub parts_more : (k : ℕ) (ps : List (List Event)) → parts_tokens instances messages actions 0 (take (k + 1) ps) ≡ parts_tokens instances messages actions 0 (take k ps) ++ part_tokens instances messages actions k (get_or ps k [])
+  parts_more k ps =
+      ap (λ n. parts_tokens instances messages actions 0 (take n ps)) (add-one k)
+      ∙ go 0 k ps
+      ∙ ap (λ n. parts_tokens instances messages actions 0 (take k ps) ++ part_tokens instances messages actions n (get_or ps k [])) (zero-add k)
+    where
+      go : (j k : ℕ) (ps : List (List Event)) → parts_tokens instances messages actions j (take (suc k) ps) ≡ parts_tokens instances messages actions j (take k ps) ++ part_tokens instances messages actions (j + k) (get_or ps k [])
+      go j zero [] = refl
+      go j (suc k) [] = refl
+      go j zero (p ∷ ps) = append-nil (part_tokens instances messages actions j p) ∙ ap (λ n. part_tokens instances messages actions n p) (omega arith)
+      go j (suc k) (p ∷ ps) =
+          ap (λ ts. part_tokens instances messages actions j p ++ ts) (go (suc j) k ps)
+          ∙ sym (append_assoc (part_tokens instances messages actions j p) (parts_tokens instances messages actions (suc j) (take k ps)) (part_tokens instances messages actions (suc j + k) (get_or ps k [])))
+          ∙ ap (λ n. (part_tokens instances messages actions j p ++ parts_tokens instances messages actions (suc j) (take k ps)) ++ part_tokens instances messages actions n (get_or ps k [])) (omega arith)
 
   -- a part with events is a block
   pub part_some : (i : ℕ) (es : List Event) → (length es ≡ 0 → ⊥) → block_tokens instances messages actions i es ≡ part_tokens instances messages actions i es
   part_some i [] h = absurd (h refl)
   part_some i (e ∷ es) h = refl
 
--- a chart has eight parts
-length_cut : (es : List Event) (a : ℕ) (ends : List ℕ) → length (cut es a ends) ≡ length ends
-length_cut es a [] = refl
-length_cut es a (e ∷ ends) = ap suc (length_cut es e ends)
+-- the names of charts are those of their rows
+pub chart_names_map : (es : List Event) (a : ℕ) (rows : List Chart) → map (λ (r : Chart). r.name) rows ≡ chart_names (charts_from es a rows)
+chart_names_map es a [] = refl
+chart_names_map es a (r ∷ rows) = ap (λ l. r.name ∷ l) (chart_names_map es (get_or r.ends 7 0) rows)
 
-pub few_parts : (es : List Event) (a : ℕ) (rows : List Chart) (c : ℕ) → length (get_or (charts_from es a rows) c no_chart).parts ≤ 8
-few_parts es a [] c = omega arith
-few_parts es a (r ∷ rows) zero = let n = length_cut es a r.ends in omega (arith, r.eight)
-few_parts es a (r ∷ rows) (suc c) = few_parts es (get_or r.ends 7 0) rows c
-
--- the names of charts and labels are those of their rows
-pub chart_name : (es : List Event) (a : ℕ) (rows : List Chart) (c : ℕ) → get_or (map (λ (r : Chart). name_of r.name) rows) c [] ≡ (get_or (charts_from es a rows) c no_chart).name
-chart_name es a [] c = refl
-chart_name es a (r ∷ rows) zero = refl
-chart_name es a (r ∷ rows) (suc c) = chart_name es (get_or r.ends 7 0) rows c
-
-pub chart_names_lem : (es : List Event) (a : ℕ) (rows : List Chart) → map (λ (r : Chart). name_of r.name) rows ≡ chart_names (charts_from es a rows)
-chart_names_lem es a [] = refl
-chart_names_lem es a (r ∷ rows) = ap (λ l. name_of r.name ∷ l) (chart_names_lem es (get_or r.ends 7 0) rows)
-
-pub label_names_lem : (rows : List Label) → map (λ (r : Label). name_of r.name) rows ≡ label_names (map label_of rows)
-label_names_lem [] = refl
-label_names_lem (r ∷ rows) = ap (λ l. name_of r.name ∷ l) (label_names_lem rows)
-
--- a list is its first name, and then each name behind alt
-list_tokens_lem : (names : List (List ℕ)) (l : ℕ) (ls : List ℕ) → list_tokens names (l ∷ ls) ≡ name (get_or names l []) ∷ flat_map (alt_tokens names) ls
-list_tokens_lem names l [] = refl
-list_tokens_lem names l (m ∷ ls) = ap (λ ts. name (get_or names l []) ∷ (word keyword.Alt ∷ ts)) (list_tokens_lem names m ls)
-
-pub list_written : (ws names : List (List ℕ)) (p : Page) (ls : List ℕ) → (length ls ≡ 0 → ⊥) → penned ws (on p true (get_or names (get_or ls 0 0) [])) (flat_map (alt_tokens names) (drop 1 ls)) ≡ penned ws p (list_tokens names ls)
-list_written ws names p [] h = absurd (h refl)
-list_written ws names p (l ∷ ls) h = ap (penned ws p) (sym (list_tokens_lem names l ls))
-
-pub list_none : (ws names : List (List ℕ)) (p : Page) (ls : List ℕ) → length ls ≡ 0 → p ≡ penned ws p (list_tokens names ls)
-list_none ws names p ls h = sym (ap (λ l. penned ws p (list_tokens names l)) (nil_from_length ls h))
+pub chart_name_at : (cs : List doc.Chart) (c : ℕ) → get_or (chart_names cs) c [] ≡ (get_or cs c no_chart).name
+chart_name_at [] c = refl
+chart_name_at (x ∷ cs) zero = refl
+chart_name_at (x ∷ cs) (suc c) = chart_name_at cs c

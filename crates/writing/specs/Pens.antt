@@ -1,26 +1,23 @@
 -- The page that tokens are written on, one after the other.
-use Rattle.std.specs.Prelude.{ℕ, Bool, false, cond, ◌&&◌, List, [], ◌∷◌, ◌++◌}
-use Rattle.msc.specs.Rows.{items_of}
-use Rattle.msc.specs.Tokens.{Tok, is_word_tok, spelled}
+use Rattle.std.specs.Prelude.{ℕ, Bool, false, List, [], ◌∷◌, ◌++◌}
+use Rattle.msc.specs.Doc.{Doc}
+use Rattle.msc.specs.Tokens.{Tok, is_word_tok, spelled, gap}
 use Rattle.writing.specs.Fit.{fit}
-use Rattle.writing.specs.declared.pen.Pen.{Pen}
 
--- what is written so far, and whether a word stands last
+-- the document that is written, what stands on the page so far, and whether a word stands last
 pub record Page : Type 0 where
+  pub document : Doc
   pub bytes : List ℕ
   pub after : Bool
 
--- a word or a symbol more, with one space ahead where a word follows a word
-unfoldable pub on : Page → Bool → List ℕ → Page
-on p is_word bs = record { bytes = fit (p.bytes ++ (cond (p.after && is_word) (32 ∷ []) [] ++ bs)); after = is_word }
+-- a token more, with one space ahead where a word follows a word
+unfoldable pub with : Page → Tok → Page
+with p t = record { document = p.document; bytes = fit (p.bytes ++ (gap p.after t ++ spelled p.document.words t)); after = is_word_tok t }
 
 -- tokens more
-abbrev pub penned : List (List ℕ) → Page → List Tok → Page
-penned ws p [] = p
-penned ws p (t ∷ ts) = penned ws (on p (is_word_tok t) (spelled ws t)) ts
+abbrev pub penned : Page → List Tok → Page
+penned p [] = p
+penned p (t ∷ ts) = penned (with p t) ts
 
-abbrev pub blank : Page
-blank = record { bytes = []; after = false }
-
-abbrev pub page_of : Pen → Page
-page_of p = record { bytes = items_of p.page; after = p.after }
+abbrev pub blank : Doc → Page
+blank d = record { document = d; bytes = []; after = false }

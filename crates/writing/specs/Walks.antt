@@ -1,9 +1,11 @@
 -- The tokens of a document's forms, with the names that the document gives.
 use Rattle.std.specs.Prelude.{ℕ, List, [], ◌∷◌, slice_index_or}
-use Rattle.msc.specs.Doc.{Doc, Chart, Label, Body, chart_names, label_names}
+use Rattle.msc.specs.Doc.{Doc, Chart, chart_names, label_names}
 use Rattle.msc.specs.Shortest.{event_tokens, part_tokens, parts_tokens, chart_tokens, list_tokens, body_tokens, label_tokens}
 use Rattle.msc.specs.Tokens.{Tok, name, word}
 use Rattle.msc.specs.declared.event.Event.{Event}
+use Rattle.msc.specs.declared.label.Body.{Body}
+use Rattle.msc.specs.declared.label.Label.{Label}
 use Rattle.msc.specs.declared.words.Keyword.TheVariants as keyword
 
 abbrev pub event_of : Doc → Event → List Tok

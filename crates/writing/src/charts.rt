@@ -1,106 +1,93 @@
 // The text of charts.
-ghost use Rattle.std.specs.Prelude.{◌≡◌, get_or, slice_index_or};
+ghost use Rattle.std.specs.Prelude.{◌≡◌, slice_index_or};
 ghost use Rattle.std.specs.List.{flat_map};
 ghost use Rattle.msc.specs.Meaning.{no_chart};
-ghost use Rattle.msc.specs.Rows.{name_of};
 ghost use Rattle.msc.specs.Shortest.{inst_tokens};
-ghost use Rattle.msc.specs.Spelling.{spellings_of};
-ghost use Rattle.msc.specs.Stored.{doc_of};
-ghost use Rattle.writing.specs.Pens.{penned, page_of};
+ghost use Rattle.writing.specs.Pens.{penned};
 ghost use Rattle.writing.specs.Walks.{event_of, part_of, parts_of, chart_of};
 
-use crate::lines::name_at;
 use crate::pen::Pen;
-use msc::document::Document;
 use msc::event::Event;
 use msc::name::Name;
-use msc::search::Named;
-use msc::words::{Keyword, Words};
+use msc::words::Keyword;
 
-impl Pen {
+impl<'a> Pen<'a> {
     // inst name ; for each instance
-    pub(crate) fn instances(&mut self, words: &Words, names: &[Name])
-        ensures { page_of self.new ≡ penned (spellings_of words.now.spellings) (page_of self.old) (flat_map (λ n. inst_tokens (name_of n)) names.now) }
+    pub(crate) fn instances(&mut self, names: &[Name])
+        ensures { self.new ≡ penned self.old (flat_map inst_tokens names.now) }
     {
-        for i in 0..names.len() {
-            self.titled(words, Keyword::Inst, names[i].as_bytes());
+        for name in names {
+            self.titled(Keyword::Inst, name.as_bytes());
         }
     }
 
     // out name to name ; or in name from name ; or action name ;
-    pub(crate) fn event(&mut self, document: &Document, e: Event)
-        ensures { page_of self.new ≡ penned (doc_of document.now.tables).words (page_of self.old) (event_of (doc_of document.now.tables) e) }
+    #[tactic(auto, using(crate::proofs::Pages::follow))]
+    pub(crate) fn event(&mut self, e: Event)
+        ensures { self.new ≡ penned self.old (event_of self.old.document e) }
     {
-        let words = &document.tables.words;
-        let messages = document.tables.messages.as_slice();
-        let instances = document.tables.instances.as_slice();
         match e {
             Event::Out { name, to } => {
-                self.keyword(words, Keyword::Out);
-                self.word(name_at(messages, name as usize));
-                self.titled(words, Keyword::To, name_at(instances, to as usize));
+                self.keyword(Keyword::Out);
+                self.word(self.message(name as usize));
+                self.titled(Keyword::To, self.instance(to as usize));
             }
             Event::In { name, from } => {
-                self.keyword(words, Keyword::In);
-                self.word(name_at(messages, name as usize));
-                self.titled(words, Keyword::From, name_at(instances, from as usize));
+                self.keyword(Keyword::In);
+                self.word(self.message(name as usize));
+                self.titled(Keyword::From, self.instance(from as usize));
             }
-            Event::Action { name } => {
-                let actions = document.tables.actions.as_slice();
-                self.titled(words, Keyword::Action, name_at(actions, name as usize));
-            }
+            Event::Action { name } => self.titled(Keyword::Action, self.action(name as usize)),
         }
     }
 
     // the events of a part
-    pub(crate) fn events(&mut self, document: &Document, events: &[Event])
-        ensures { page_of self.new ≡ penned (doc_of document.now.tables).words (page_of self.old) (flat_map (event_of (doc_of document.now.tables)) events.now) }
+    pub(crate) fn events(&mut self, events: &[Event])
+        ensures { self.new ≡ penned self.old (flat_map (event_of self.old.document) events.now) }
     {
-        for i in 0..events.len() {
-            self.event(document, events[i]);
+        for e in events {
+            self.event(*e);
         }
     }
 
     // instance name ; events endinstance ; unless there are no events
-    pub(crate) fn part(&mut self, document: &Document, i: usize, events: &[Event])
-        ensures { page_of self.new ≡ penned (doc_of document.now.tables).words (page_of self.old) (part_of (doc_of document.now.tables) i events.now) }
+    pub(crate) fn part(&mut self, i: usize, events: &[Event])
+        ensures { self.new ≡ penned self.old (part_of self.old.document i events.now) }
     {
-        if events.len() == 0 {
+        if events.is_empty() {
             return;
         }
-        let words = &document.tables.words;
-        let names = document.tables.instances.as_slice();
-        self.titled(words, Keyword::Instance, name_at(names, i));
-        self.events(document, events);
-        self.closing(words, Keyword::Endinstance);
+        self.titled(Keyword::Instance, self.instance(i));
+        self.events(events);
+        self.closing(Keyword::Endinstance);
     }
 
-    // the parts of a chart
-    pub(crate) fn parts(&mut self, document: &Document, chart: usize)
-        ensures { page_of self.new ≡ penned (doc_of document.now.tables).words (page_of self.old) (parts_of (doc_of document.now.tables) 0 (get_or (doc_of document.now.tables).charts chart no_chart).parts) }
+    // the parts of a chart; by number, since no table of a document holds a part
+    pub(crate) fn parts(&mut self, chart: usize)
+        ensures { self.new ≡ penned self.old (parts_of self.old.document 0 (slice_index_or self.old.document.charts chart no_chart).parts) }
     {
+        let document = self.document;
         for i in 0..8 {
-            self.part(document, i, document.part(chart, i));
+            self.part(i, document.part(chart, i));
         }
     }
 
     // msc name ; parts endmsc ;
-    pub(crate) fn chart(&mut self, document: &Document, chart: usize)
-        ensures { page_of self.new ≡ penned (doc_of document.now.tables).words (page_of self.old) (chart_of (doc_of document.now.tables) (slice_index_or (doc_of document.now.tables).charts chart no_chart)) }
+    #[tactic(auto, using(crate::proofs::Pages::follow, crate::proofs::Forms::chart_name_at))]
+    pub(crate) fn chart(&mut self, chart: usize)
+        ensures { self.new ≡ penned self.old (chart_of self.old.document (slice_index_or self.old.document.charts chart no_chart)) }
     {
-        let words = &document.tables.words;
-        let charts = document.tables.charts.as_slice();
-        self.titled(words, Keyword::Msc, name_at(charts, chart));
-        self.parts(document, chart);
-        self.closing(words, Keyword::Endmsc);
+        self.titled(Keyword::Msc, self.chart_name(chart));
+        self.parts(chart);
+        self.closing(Keyword::Endmsc);
     }
 
-    // every chart
-    pub(crate) fn charts(&mut self, document: &Document)
-        ensures { page_of self.new ≡ penned (doc_of document.now.tables).words (page_of self.old) (flat_map (chart_of (doc_of document.now.tables)) (doc_of document.now.tables).charts) }
+    // every chart; by number, since a row does not tell where its first part begins
+    pub(crate) fn charts(&mut self)
+        ensures { self.new ≡ penned self.old (flat_map (chart_of self.old.document) self.old.document.charts) }
     {
-        for i in 0..document.charts() {
-            self.chart(document, i);
+        for i in 0..self.document.charts() {
+            self.chart(i);
         }
     }
 }

@@ -1,10 +1,9 @@
 // Writing: the shortest text of a document.
 #![tactic(auto)]
 
-mod append;
 mod charts;
 mod graph;
 mod lines;
+mod names;
 mod pen;
-mod strokes;
 pub mod writer;

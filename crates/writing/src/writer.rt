@@ -1,10 +1,9 @@
 // Writes a document.
 ghost use Rattle.std.specs.Prelude.{◌≡◌, ℕ, ◌≤◌, List, length, Ok};
 ghost use Rattle.msc.specs.Shortest.{doc_tokens, text_of};
-ghost use Rattle.msc.specs.Stored.{doc_of};
 ghost use Rattle.forms.specs.Reading.{read_of};
 ghost use Rattle.forms.specs.Writes.{Writes};
-ghost use Rattle.writing.specs.Pens.{penned, page_of};
+ghost use Rattle.writing.specs.Pens.{penned};
 ghost use Rattle.writing.specs.Writing.{write_of, after_write};
 
 use crate::pen::Pen;
@@ -12,34 +11,31 @@ use lexis::refusal::Refusal;
 use msc::document::Document;
 use msc::words::Keyword;
 
-impl Pen {
+impl<'a> Pen<'a> {
     // mscdocument name ; instances charts graph endmscdocument ;
-    fn document(&mut self, document: &Document)
-        ensures { page_of self.new ≡ penned (doc_of document.now.tables).words (page_of self.old) (doc_tokens (doc_of document.now.tables)) }
+    #[tactic(auto, using(crate::proofs::Pages::follow))]
+    fn document(&mut self)
+        ensures { self.new ≡ penned self.old (doc_tokens self.old.document) }
     {
-        let words = &document.tables.words;
-        self.titled(
-            words,
-            Keyword::Mscdocument,
-            document.tables.title.as_bytes(),
-        );
-        self.instances(words, document.tables.instances.as_slice());
-        self.charts(document);
-        self.graph(document);
-        self.closing(words, Keyword::Endmscdocument);
+        let tables = self.tables();
+        self.titled(Keyword::Mscdocument, tables.title.as_bytes());
+        self.instances(tables.instances.as_slice());
+        self.charts();
+        self.graph();
+        self.closing(Keyword::Endmscdocument);
     }
 }
 
 // The shortest text of a document at the front of the output, and its length; where the output is shorter,
 // the length that it needs, and the output as it was. The text reads back as the document, and no writing of it is shorter.
 pub fn write(document: &Document, out: &mut [u8]) -> Result<usize, Refusal>
-    ensures answer { result ≡ write_of (doc_of document.now.tables) out.old }
-    ensures output { out.new ≡ after_write (doc_of document.now.tables) out.old }
-    ensures back { read_of (doc_of document.now.tables).words (text_of (doc_of document.now.tables)) ≡ Ok (doc_of document.now.tables) }
-    ensures shortest { (text : List ℕ) → Writes text (doc_of document.now.tables) → length (text_of (doc_of document.now.tables)) ≤ length text }
+    ensures answer { result ≡ write_of document.now.tables out.old }
+    ensures output { out.new ≡ after_write document.now.tables out.old }
+    ensures back { read_of document.now.tables.words (text_of document.now.tables) ≡ Ok document.now.tables }
+    ensures shortest { (text : List ℕ) → Writes text document.now.tables → length (text_of document.now.tables) ≤ length text }
 {
-    let mut pen = Pen::new();
-    pen.document(document);
+    let mut pen = Pen::new(document);
+    pen.document();
     let text = pen.text();
     let needed = text.len();
     if needed > out.len() {

@@ -1,7 +1,9 @@
-use Rattle.std.proofs.Common.{◌∙◌}
-use Rattle.lexis.specs.Readers.{words_of}
-use Rattle.charts.proofs.Opened.{same_instances}
+use Rattle.std.proofs.Common.{rules}
+use Rattle.charts.proofs.Opened.{by_lines}
 use Rattle.charts.proofs.instances.instances.Goals as goal
 
+pub returns-in_err-more_instances : goal.returns-in_err-more_instances
+returns-in_err-more_instances c = let r = c.args.reader.now in record { says = by_lines r.words r.at r.rest _ (search rules); words = search rules }
+
 pub returns : goal.returns
-returns c = c.lines.ensures ∙ same_instances (words_of c.args.words.now) c.args.reader.now
+returns c = let r = c.args.reader.now in record { says = by_lines r.words r.at r.rest _ (search rules); words = search rules }

@@ -1,26 +1,28 @@
-use Rattle.std.proofs.Common.{◌-◌, refl, arith}
-use Rattle.std.proofs.lemmas.Result.{err_from_is_err_and}
-use Rattle.lexis.specs.Readers.{words_of}
+use Rattle.std.proofs.Common.{◌-◌, refl, sym, ◌∙◌, arith}
 use Rattle.forms.specs.Reading.{inst_turn}
-use Rattle.draft.specs.Drafting.{draft_of}
 use Rattle.charts.specs.Turns.{instances_in}
-use Rattle.draft.proofs.Repeat.{more, ends, refuses, runs_out}
+use Rattle.draft.proofs.Repeat.{ends}
+use Rattle.parts.proofs.Loops.{goes_on, gives_up}
 use Rattle.charts.proofs.instances.more_instances.Goals as goal
 
-pub loop-i-init : goal.loop-i-init
+pub loop-init : goal.loop-init
 unfolding instances_in
-loop-i-init c = refl
+loop-init c = (refl, refl)
 
 pub returns-in_err-instance_turn : goal.returns-in_err-instance_turn
-returns-in_err-instance_turn c =
-    let p = err_from_is_err_and c.from_residual.result c.from_residual.ensures.1 in
-    rw (p.1, p.2) (refuses (inst_turn (words_of c.args.words.now)) (8 - c.loop-i.i) (draft_of c.loop-i.draft) _ _ _ c.loop-i.invariant (7 - c.loop-i.i) (omega arith) _ c.in_err-instance_turn.ensures)
+returns-in_err-instance_turn c = record {
+  says = gives_up inst_turn _ (8 - c.loop.counter) c.loop.draft _ _ _ c.loop.invariant.0 (7 - c.loop.counter) (omega arith) _ c.in_err-instance_turn.ensures.says _ _ _ c.from_residual.ensures.1;
+  words = c.instance_turn.ensures.words ∙ c.loop.invariant.1;
+}
 
-pub returns-then-branch : goal.returns-then-branch
-returns-then-branch c = ends (inst_turn (words_of c.args.words.now)) (8 - c.loop-i.i) _ _ _ _ c.loop-i.invariant (7 - c.loop-i.i) (omega arith) _ _ c.if-branch.true _ _ c.in_ok-instance_turn.ensures
+pub returns-then-is_break : goal.returns-then-is_break
+returns-then-is_break c = record {
+  says = ends (inst_turn c.loop.reader.words) (8 - c.loop.counter) _ _ _ _ c.loop.invariant.0 (7 - c.loop.counter) (omega arith) _ _ (sym c.is_break.ensures ∙ c.if-is_break.true) _ _ c.in_ok-instance_turn.ensures.says;
+  words = c.instance_turn.ensures.words ∙ c.loop.invariant.1;
+}
 
-pub loop-i-preserved : goal.loop-i-preserved
-loop-i-preserved c = more (inst_turn (words_of c.args.words.now)) (8 - c.loop-i.i) _ _ _ _ c.loop-i.invariant _ (omega arith) _ _ c.if-branch.false _ _ c.in_ok-instance_turn.ensures
-
-pub returns : goal.returns
-returns c = runs_out (inst_turn (words_of c.args.words.now)) (8 - c.loop-i.i) (draft_of c.loop-i.draft) _ _ _ c.loop-i.invariant (omega arith)
+pub loop-preserved : goal.loop-preserved
+loop-preserved c = (
+  goes_on inst_turn _ (8 - c.loop.counter) _ _ _ _ c.loop.invariant.0 _ (omega arith) _ c.instance_turn.ensures.words _ _ (sym c.is_break.ensures ∙ c.if-is_break.false) _ _ c.in_ok-instance_turn.ensures.says,
+  c.instance_turn.ensures.words ∙ c.loop.invariant.1,
+)

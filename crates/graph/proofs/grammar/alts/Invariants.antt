@@ -1,10 +1,12 @@
-use Rattle.std.proofs.Common.{◌≡◌, ◌-◌}
-use Rattle.lexis.specs.Readers.{words_of, from}
+use Rattle.std.proofs.Common.{◌≡◌, ◌-◌, [], ◌∷◌}
+use Rattle.lexis.specs.Readers.{from}
 use Rattle.lexis.specs.Steps.{repeat}
 use Rattle.forms.specs.Reading.{alt_turn}
-use Rattle.graph.specs.Lines.{mentions_of}
 use Rattle.graph.proofs.grammar.alts.Given as goal
 
--- what is left comes to what the whole comes to
-abbrev pub invariant-loop-i : goal.invariant-loop-i
-invariant-loop-i l = from (repeat (alt_turn (words_of l.words) l.close) (8 - l.i) (mentions_of l.list)) l.reader ≡ from (repeat (alt_turn (words_of l.words) l.close) 8 (mentions_of l.initial.list)) l.initial.reader
+-- what is left comes to what the whole comes to, under the same words
+abbrev pub invariant-loop : goal.invariant-loop
+invariant-loop l = record {
+  says : from (λ ws. repeat (alt_turn ws l.close) (8 - l.counter) l.list) l.reader ≡ from (λ ws. repeat (alt_turn ws l.close) 8 (l.fn.first ∷ [])) l.initial.reader;
+  words : l.reader.words ≡ l.initial.reader.words;
+}

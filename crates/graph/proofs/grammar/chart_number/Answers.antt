@@ -1,9 +1,7 @@
-use Rattle.std.proofs.Common.{map, sym, arith}
-use Rattle.msc.specs.Rows.{name_of}
-use Rattle.msc.specs.declared.chart.Chart.{Chart}
-use Rattle.std.proofs.lemmas.List.{length-map}
-use Rattle.graph.proofs.Rows.{place-below}
+use Rattle.std.proofs.lemmas.Result.{err_from_is_err_and}
 use Rattle.graph.proofs.grammar.chart_number.Goals as goal
 
-pub overflow_cast-result : goal.overflow_cast-result
-overflow_cast-result c = omega (arith, place-below 0 (map (λ (x : Chart). name_of x.name) c.args.charts.now) _ _ (sym c.in-Some.ensures), length-map c.args.charts.now (λ (x : Chart). name_of x.name))
+pub returns-in_err-old_name : goal.returns-in_err-old_name
+returns-in_err-old_name c =
+    let p = err_from_is_err_and c.from_residual.result c.from_residual.ensures.1 in
+    rw (p.1, p.2, ← c.as_slice.ensures.is) (record { says = c.in_err-old_name.ensures.reads.says; words = c.in_err-old_name.ensures.reads.words })

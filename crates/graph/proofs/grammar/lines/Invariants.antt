@@ -1,13 +1,14 @@
-use Rattle.std.proofs.Common.{◌≡◌, ◌-◌, map}
-use Rattle.msc.specs.Rows.{name_of, items_of}
-use Rattle.msc.specs.declared.chart.Chart.{Chart}
-use Rattle.lexis.specs.Readers.{words_of, from}
+use Rattle.std.proofs.Common.{◌≡◌, ◌-◌}
+use Rattle.lexis.specs.Readers.{from}
 use Rattle.lexis.specs.Steps.{repeat}
-use Rattle.forms.specs.Reading.{line_turn}
-use Rattle.graph.specs.Lines.{line_of}
+use Rattle.forms.specs.Reading.{line_turn, lines_at}
+use Rattle.graph.specs.Parts.{names_of}
 use Rattle.graph.proofs.grammar.lines.Given as goal
 
--- what is left comes to what the whole comes to
-abbrev pub invariant-loop-i : goal.invariant-loop-i
-invariant-loop-i l = from (repeat (line_turn (words_of l.words) (map (λ (c : Chart). name_of c.name) l.rows)) (65 - l.i) (map line_of (items_of l.lines))) l.reader
-    ≡ from (repeat (line_turn (words_of l.words) (map (λ (c : Chart). name_of c.name) l.rows)) 65 (map line_of (items_of l.initial.lines))) l.initial.reader
+-- what is left comes to what the whole comes to, under the same words and charts
+abbrev pub invariant-loop : goal.invariant-loop
+invariant-loop l = record {
+  says : from (λ ws. repeat (line_turn ws (names_of l.fn.charts)) (65 - l.counter) l.lines.lines) l.reader ≡ from (λ ws. lines_at ws (names_of l.fn.charts)) l.initial.reader;
+  words : l.reader.words ≡ l.initial.reader.words;
+  charts : l.lines.charts.now ≡ l.fn.charts;
+}

@@ -1,22 +1,26 @@
-use Rattle.std.proofs.Common.{sym, refl, ◌∙◌, arith, length-set}
-use Rattle.std.proofs.lemmas.Bool.{lt-ltb, le-ltb}
-use Rattle.draft.proofs.Held.{length_items, length-parts, closes, closes_tiled}
+use Rattle.std.proofs.Common.{ltb, sym, ap, ◌∙◌, arith}
+use Rattle.std.proofs.lemmas.Bool.{cond-true}
+use Rattle.draft.proofs.Tiling.{length_cut}
+use Rattle.draft.proofs.Held.{closes, closes_tiled}
 use Rattle.draft.proofs.draft.Draft.close_part.Goals as goal
 
 pub invariant_of-self : goal.invariant_of-self
-invariant_of-self c =
-    let d = c.args.self.now in
-    let n = c.len-end.result in
-    record {
-      eight = length-set d.ends d.closed n ∙ d.eight;
-      few = omega (arith, c.if-self-ge8.false);
-      within = omega (arith, c.len-end.ensures, length_items d.events);
-      charted = d.charted;
-      tiled = closes_tiled d n c.len-end.ensures c.if-self-ge8.false;
-    }
+invariant_of-self c = record {
+  within = omega (arith, c.len-end.ensures.is);
+  charted = c.self.invariant.charted;
+  tiled = closes_tiled c.self.inside c.self.invariant c.len-end.result c.len-end.ensures.is _ (c.push-fits.ensures.items ∙ cond-true _ _ _ c.if-fits.true);
+}
 
-pub returns-then-self-ge8 : goal.returns-then-self-ge8
-returns-then-self-ge8 c = record { done = sym (le-ltb _ 8 (omega (arith, length-parts c.args.self.now, c.if-self-ge8.true))); is = refl }
+pub returns-then-fits-clause-done : goal.returns-then-fits-clause-done
+returns-then-fits-clause-done c =
+    let d = c.self.inside in
+    rw (← c.self.view_is) (c.push-fits.ensures.done ∙ ap (λ n. ltb n 8) (sym (length_cut d.events d.first d.ends)))
 
-pub returns : goal.returns
-returns c = record { done = sym (lt-ltb _ 8 (omega (arith, length-parts c.args.self.now, c.if-self-ge8.false))); is = closes c.args.self.now _ c.len-end.ensures c.if-self-ge8.false }
+pub returns-then-fits-clause-is : goal.returns-then-fits-clause-is
+returns-then-fits-clause-is c =
+    rw (c.if-fits.true, ← c.self.view_is) (closes c.self.inside c.self.invariant c.len-end.result c.len-end.ensures.is _ (c.push-fits.ensures.items ∙ cond-true _ _ _ c.if-fits.true))
+
+pub returns-else-fits-clause-done : goal.returns-else-fits-clause-done
+returns-else-fits-clause-done c =
+    let d = c.self.inside in
+    rw (← c.self.view_is) (c.push-fits.ensures.done ∙ ap (λ n. ltb n 8) (sym (length_cut d.events d.first d.ends)))

@@ -1,37 +1,30 @@
-use Rattle.std.proofs.Common.{◌≡◌, true, sym, refl, ◌∙◌, arith}
+use Rattle.std.proofs.Common.{◌≡◌, true, ltb, length, refl, sym, ap, ◌∙◌}
+use Rattle.std.proofs.lemmas.Bool.{cond-true, eq-eqb}
 use Rattle.forms.specs.Drafts.{opened}
-use Rattle.std.proofs.lemmas.Bool.{lt-ltb, le-ltb, cond-true, eq-eqb}
-use Rattle.msc.specs.Rows.{items_of}
-use Rattle.draft.specs.Drafting.{draft_of}
-use Rattle.draft.proofs.Ending.{length_charts, same_charts, ended_rows, ended}
+use Rattle.draft.specs.Laid.{draft_of}
+use Rattle.draft.proofs.Ending.{eight, same_charts, ended_rows, ended}
 use Rattle.draft.proofs.draft.Draft.end_chart.Goals as goal
 
-pub returns-then-len-ge64 : goal.returns-then-len-ge64
-returns-then-len-ge64 c =
-    let d = c.args.self.now in
-    record { done = sym (le-ltb _ 64 (omega (arith, length_charts (items_of d.events) 0 (items_of d.charts), c.len.ensures, c.if-len-ge64.true))); is = refl }
+pub copy_from_slice-requires : goal.copy_from_slice-requires
+copy_from_slice-requires c =
+    sym (ap length c.as_slice.ensures.is ∙ eight c.args.self.now c.self.inside c.self.invariant (c.self.view_is ∙ c.open_part.ensures.is ∙ cond-true _ _ _ c.open_part.ensures.done) c.as_slice.ensures.few)
+
+-- the draft with its eight parts, and the row behind the others
+parts : (c : goal.After-truncate) → draft_of c.self.inside ≡ opened c.args.self.now 8
+parts c = c.self.view_is ∙ c.open_part.ensures.is ∙ cond-true _ _ _ c.open_part.ensures.done
+
+pushed : (c : goal.After-truncate) → c.push.result ≡ true
+pushed c = c.push.ensures.done ∙ ap (λ n. ltb n 64) (same_charts c.args.self.now c.self.inside c.self.invariant (parts c)) ∙ sym c.has_room_chart.ensures ∙ c.if-not-has_room_chart.false
 
 pub invariant_of-self : goal.invariant_of-self
 invariant_of-self c =
-    let d = c.args.self.now in
-    let e = c.open_part.new.self in
-    let h : draft_of e ≡ opened (draft_of d) 8 = c.open_part.ensures.is ∙ cond-true _ _ _ c.open_part.ensures.done in
-    let few : c.push.result ≡ true = c.push.ensures.done ∙ lt-ltb _ 64 (omega (arith, same_charts d e h, c.len.ensures, c.if-len-ge64.false)) in
+    let e = c.self.inside in
     record {
-      eight = e.eight;
-      few = omega arith;
-      within = e.within;
-      charted = ended_rows d e h _ refl _ (c.push.ensures.items ∙ cond-true _ _ _ few);
-      tiled = eq-eqb e.«open» e.«open» refl;
+      within = c.self.invariant.within;
+      charted = ended_rows c.args.self.now e c.self.invariant (parts c) _ (c.copy_from_slice.ensures.after ∙ c.as_slice.ensures.is) _ (c.push.ensures.items ∙ cond-true _ _ _ (pushed c));
+      tiled = rw c.truncate.ensures (eq-eqb e.«open» e.«open» refl);
     }
 
-pub returns : goal.returns
-returns c =
-    let d = c.args.self.now in
-    let e = c.open_part.new.self in
-    let h : draft_of e ≡ opened (draft_of d) 8 = c.open_part.ensures.is ∙ cond-true _ _ _ c.open_part.ensures.done in
-    let few : c.push.result ≡ true = c.push.ensures.done ∙ lt-ltb _ 64 (omega (arith, same_charts d e h, c.len.ensures, c.if-len-ge64.false)) in
-    record {
-      done = sym (lt-ltb _ 64 (omega (arith, length_charts (items_of d.events) 0 (items_of d.charts), c.len.ensures, c.if-len-ge64.false)));
-      is = ended d e h _ refl _ (c.push.ensures.items ∙ cond-true _ _ _ few);
-    }
+pub returns-clause-is : goal.returns-clause-is
+returns-clause-is c =
+    rw c.truncate.ensures (ended c.args.self.now c.self.inside c.self.invariant (parts c) _ (c.copy_from_slice.ensures.after ∙ c.as_slice.ensures.is) _ (c.push.ensures.items ∙ cond-true _ _ _ (pushed c)))

@@ -1,6 +1,6 @@
-use Rattle.std.proofs.Common.{sym}
-use Rattle.draft.proofs.Held.{length-parts}
+use Rattle.std.proofs.Common.{sym, ◌∙◌}
+use Rattle.draft.proofs.Tiling.{length_cut}
 use Rattle.draft.proofs.draft.Draft.parts.Goals as goal
 
 pub returns : goal.returns
-returns c = sym (length-parts c.args.self.now)
+returns c = let d = c.self.inside in rw (← c.self.view_is) (c.len.ensures.is ∙ sym (length_cut d.events d.first d.ends))

@@ -1,8 +1,0 @@
-use Rattle.std.proofs.Common.{ltb, sym, ap, ◌∙◌}
-use Rattle.std.proofs.lemmas.List.{length-map}
-use Rattle.msc.specs.Rows.{items_of}
-use Rattle.graph.specs.Lines.{line_of}
-use Rattle.graph.proofs.lists.any.Goals as goal
-
-pub returns : goal.returns
-returns c = ap (ltb 0) (c.len.ensures ∙ sym (length-map (items_of c.args.lines.now) line_of))

@@ -1,0 +1,9 @@
+// A text that is being read: a reader, and what has been read so far.
+use draft::draft::Draft;
+use lexis::reader::Reader;
+
+#[derive(Drop)]
+pub struct Reading<'a> {
+    pub reader: Reader<'a>,
+    pub draft: Draft,
+}
