@@ -18,6 +18,16 @@ pub struct Letter {
     pub turns: [u16; 8],
 }
 
+impl Letter {
+    // A letter of zeros, which `default` gives too: the value of a constant may call no function.
+    pub const BLANK: Letter = Letter {
+        label: 0,
+        name: 0,
+        place: 0,
+        turns: [0; 8],
+    };
+}
+
 // Why a call of a channel or a bag is refused.
 #[derive(Clone, Copy, PartialEq, Eq, Debug)]
 pub enum Refusal {

@@ -60,7 +60,8 @@ abbrev pub named : Draft → ControlFlow (List ℕ) (Unit {0}) → (Draft × Lis
 named d (Break n) = ((d, n), true)
 named d (Continue x) = ((d, []), false)
 
--- words and charts are as they were
+-- words, text and charts are as they were
 pub record Stays (old new : Reading) : Type 0 where
   pub words : new.reader.words ≡ old.reader.words
+  pub text : new.reader.text ≡ old.reader.text
   pub charts : new.draft.charts ≡ old.draft.charts

@@ -16,7 +16,7 @@ use std::ops::ControlFlow;
 const TURNS: usize = 9;
 
 // ; events endinstance ; of instance `own`, which is behind those that had a block: its caller has tried that.
-fn part(reading: &mut Reading<'_>, own: usize) -> Result<(), Refusal>
+fn part(reading: &mut Reading<'_, '_>, own: usize) -> Result<(), Refusal>
     requires behind { length reading.old.draft.parts ≤ own }
     requires declared { own < 8 }
     ensures says { step_of (λ _. reading.new.draft) result reading.new.reader ≡ here (λ ws. part_in ws own) reading.old }
@@ -31,7 +31,7 @@ fn part(reading: &mut Reading<'_>, own: usize) -> Result<(), Refusal>
 }
 
 // name ; events endinstance ; of an instance behind the last one that had a block.
-fn block(reading: &mut Reading<'_>) -> Result<(), Refusal>
+fn block(reading: &mut Reading<'_, '_>) -> Result<(), Refusal>
     ensures says { step_of (λ _. reading.new.draft) result reading.new.reader ≡ here block_in reading.old }
     ensures stays { Stays reading.old reading.new }
 {
@@ -43,7 +43,7 @@ fn block(reading: &mut Reading<'_>) -> Result<(), Refusal>
 }
 
 // A block, or the word endmsc, which is the last.
-fn block_turn(reading: &mut Reading<'_>) -> Result<ControlFlow<()>, Refusal>
+fn block_turn(reading: &mut Reading<'_, '_>) -> Result<ControlFlow<()>, Refusal>
     ensures says { turned result reading.new ≡ here block_turn_in reading.old }
     ensures stays { Stays reading.old reading.new }
 {
@@ -60,7 +60,7 @@ fn block_turn(reading: &mut Reading<'_>) -> Result<ControlFlow<()>, Refusal>
 }
 
 // The blocks of a chart, and the word endmsc.
-pub fn blocks(reading: &mut Reading<'_>) -> Result<(), Refusal>
+pub fn blocks(reading: &mut Reading<'_, '_>) -> Result<(), Refusal>
     ensures says { step_of (λ _. reading.new.draft) result reading.new.reader ≡ here blocks_in reading.old }
     ensures stays { Stays reading.old reading.new }
 {

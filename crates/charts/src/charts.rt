@@ -18,10 +18,11 @@ use std::ops::ControlFlow;
 const TURNS: usize = 65;
 
 // blocks endmsc ; and the word msc, where the draft has room for a chart: its caller has tried that.
-fn chart(reading: &mut Reading<'_>, name: Name) -> Result<(), Refusal>
+fn chart(reading: &mut Reading<'_, '_>, name: Name) -> Result<(), Refusal>
     requires { nat_lt (length reading.old.draft.charts) 64 ≡ true }
     ensures says { step_of (λ _. reading.new.draft) result reading.new.reader ≡ here (λ ws d. chart_in ws d name) reading.old }
     ensures words { reading.new.reader.words ≡ reading.old.reader.words }
+    ensures text { reading.new.reader.text ≡ reading.old.reader.text }
 {
     blocks(reading)?;
     reading.reader.sign(Symbol::Semi)?;
@@ -31,9 +32,10 @@ fn chart(reading: &mut Reading<'_>, name: Name) -> Result<(), Refusal>
 }
 
 // Behind the word msc: name ; and then the word expr, which begins the graph and gives its name, or a chart.
-fn chart_turn(reading: &mut Reading<'_>) -> Result<ControlFlow<Name>, Refusal>
+fn chart_turn(reading: &mut Reading<'_, '_>) -> Result<ControlFlow<Name>, Refusal>
     ensures says { step_of (named reading.new.draft) result reading.new.reader ≡ here (λ ws d. chart_turn_in ws (d, [])) reading.old }
     ensures words { reading.new.reader.words ≡ reading.old.reader.words }
+    ensures text { reading.new.reader.text ≡ reading.old.reader.text }
 {
     let name = new_name(&mut reading.reader, reading.draft.charts().as_slice())?;
     reading.reader.sign(Symbol::Semi)?;
@@ -51,9 +53,10 @@ fn chart_turn(reading: &mut Reading<'_>) -> Result<ControlFlow<Name>, Refusal>
 }
 
 // Reads at most 64 charts behind the word msc, up to the graph's word expr; the answer is the graph's name.
-pub fn charts(reading: &mut Reading<'_>) -> Result<Name, Refusal>
+pub fn charts(reading: &mut Reading<'_, '_>) -> Result<Name, Refusal>
     ensures says { drafted result reading.new ≡ here charts_at reading.old }
     ensures words { reading.new.reader.words ≡ reading.old.reader.words }
+    ensures text { reading.new.reader.text ≡ reading.old.reader.text }
 {
     // written out, as the events of a part are
     for _ in 0..TURNS {

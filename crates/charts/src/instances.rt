@@ -18,7 +18,7 @@ const TURNS: usize = 8;
 
 // name ; of an instance, behind the word inst at a place.
 // Reader and draft stay two parameters here, since the draft begins with the instances: a reading would be made of them only to be taken apart.
-fn instance(reader: &mut Reader<'_>, draft: &mut Draft, place: usize) -> Result<(), Refusal>
+fn instance(reader: &mut Reader<'_, '_>, draft: &mut Draft, place: usize) -> Result<(), Refusal>
     ensures { Reads (λ ws. inst_at ws draft.old place) (λ _. draft.new) result reader.old reader.new }
 {
     if !draft.has_room_instance() {
@@ -31,7 +31,7 @@ fn instance(reader: &mut Reader<'_>, draft: &mut Draft, place: usize) -> Result<
 }
 
 // Another instance line, or the word msc, which ends them.
-fn instance_turn(reader: &mut Reader<'_>, draft: &mut Draft) -> Result<ControlFlow<()>, Refusal>
+fn instance_turn(reader: &mut Reader<'_, '_>, draft: &mut Draft) -> Result<ControlFlow<()>, Refusal>
     ensures { Reads (λ ws. inst_turn ws draft.old) (λ x. (draft.new, is_last x)) result reader.old reader.new }
 {
     let token = reader.next()?;
@@ -47,7 +47,7 @@ fn instance_turn(reader: &mut Reader<'_>, draft: &mut Draft) -> Result<ControlFl
 }
 
 // What is left of the instance lines behind the first, and the word msc.
-fn more_instances(reader: &mut Reader<'_>, draft: &mut Draft) -> Result<(), Refusal>
+fn more_instances(reader: &mut Reader<'_, '_>, draft: &mut Draft) -> Result<(), Refusal>
     ensures { Reads (λ ws. instances_in ws draft.old) (λ _. draft.new) result reader.old reader.new }
 {
     // written out, as the events of a part are
@@ -60,7 +60,7 @@ fn more_instances(reader: &mut Reader<'_>, draft: &mut Draft) -> Result<(), Refu
 }
 
 // Reads one to eight instance lines and the word msc behind them.
-pub fn instances(reader: &mut Reader<'_>) -> Result<Draft, Refusal>
+pub fn instances(reader: &mut Reader<'_, '_>) -> Result<Draft, Refusal>
     ensures { Reads instances_at (λ d. d) result reader.old reader.new }
 {
     reader.keyword(Keyword::Inst)?;

@@ -11,9 +11,9 @@ fn is_out(e: Event) -> bool
     matches!(e, Event::Out { name: _, to: _ })
 }
 
-// How many of the events are outs.
+// How many of the events are outs: a sum, which has no branch for each event, as `filter` with `count` would.
 pub fn outs(events: &[Event]) -> usize
     ensures { result ≡ out_count events.now }
 {
-    events.iter().filter(|e| is_out(**e)).count()
+    events.iter().map(|e| usize::from(is_out(*e))).sum()
 }

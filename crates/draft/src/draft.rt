@@ -1,10 +1,10 @@
 // What has been read ahead of the graph. The events of all charts stand in one table, part behind part: in fixed memory,
 // a table for each of 64 charts, of up to 64 events each, would take four times the room.
 // A call that adds to it answers whether it was done, which is all that there is to tell.
-ghost use Rattle.std.specs.Prelude.{◌≡◌, ◌≤◌, List, [], length, map, if◌then◌else◌, nat_le, nat_lt};
+ghost use Rattle.std.specs.Prelude.{◌≡◌, ◌<◌, ◌≤◌, List, [], length, map, if◌then◌else◌, nat_le, nat_lt, IfSome};
 ghost use Rattle.msc.specs.Doc.{chart_names};
 ghost use Rattle.msc.specs.Spelling.{has};
-ghost use Rattle.msc.specs.Stored.{charts_from};
+ghost use Rattle.msc.specs.Stored.{charts_from, doc_of};
 ghost use Rattle.msc.specs.declared.chart.Chart.{Chart};
 ghost use Rattle.msc.specs.declared.event.Event.{Event};
 ghost use Rattle.forms.specs.Drafts.{no_draft, at_hand, so_far, with_instance, with_event, opened, closed, charted};
@@ -99,23 +99,44 @@ impl Draft {
         self.instances.as_slice()
     }
 
+    // The names of the messages, each at its number.
+    pub fn messages(&self) -> &[Name]
+        ensures is { result.now ≡ self.now.messages }
+        ensures few { length self.now.messages ≤ 128 }
+    {
+        self.messages.as_slice()
+    }
+
+    // The names of the actions, likewise.
+    pub fn actions(&self) -> &[Name]
+        ensures is { result.now ≡ self.now.actions }
+        ensures few { length self.now.actions ≤ 128 }
+    {
+        self.actions.as_slice()
+    }
+
     // The number of a message name, which is new or stood before; none where 128 stand.
     pub fn message(&mut self, name: Name) -> Option<u8>
-        ensures { (self.new, result) ≡ message_in self.old name }
+        ensures is { (self.new, result) ≡ message_in self.old name }
+        ensures few { length self.new.messages ≤ 128 }
+        ensures within { IfSome result (λ k. k < 128) }
     {
         number(&mut self.messages, name)
     }
 
     // The same of an action name. Both are one call of `number`; which table of the draft it goes to cannot be a parameter.
     pub fn action(&mut self, name: Name) -> Option<u8>
-        ensures { (self.new, result) ≡ action_in self.old name }
+        ensures is { (self.new, result) ≡ action_in self.old name }
+        ensures few { length self.new.actions ≤ 128 }
+        ensures within { IfSome result (λ k. k < 128) }
     {
         number(&mut self.actions, name)
     }
 
     // How many parts of the chart at hand are closed.
     pub fn parts(&self) -> usize
-        ensures { result ≡ length self.now.parts }
+        ensures is { result ≡ length self.now.parts }
+        ensures few { result ≤ 8 }
     {
         self.ends.len()
     }
@@ -124,6 +145,7 @@ impl Draft {
     pub fn push_instance(&mut self, name: Name) -> bool
         ensures done { result ≡ nat_lt (length self.old.instances) 8 }
         ensures is { self.new ≡ (if result then with_instance self.old name else self.old) }
+        ensures few { length self.new.instances ≤ 8 }
     {
         self.instances.push(name)
     }
@@ -137,8 +159,9 @@ impl Draft {
     }
 
     // How many events there are, of all charts.
-    fn so_far(&self) -> usize
-        ensures { result ≡ so_far self.now }
+    pub fn so_far(&self) -> usize
+        ensures is { result ≡ so_far self.now }
+        ensures few { result ≤ 1024 }
     {
         self.events.len()
     }
@@ -169,6 +192,7 @@ impl Draft {
     pub fn close_part(&mut self) -> bool
         ensures done { result ≡ nat_lt (length self.old.parts) 8 }
         ensures is { self.new ≡ (if result then closed self.old else self.old) }
+        ensures few { length self.new.parts ≤ 8 }
     {
         let end = self.events.len();
         let fits = self.ends.push(end as u16);
@@ -234,7 +258,7 @@ impl Draft {
         start: Alternatives,
         labels: Table<Label, 64>,
     ) -> Tables
-        ensures { result ≡ document_of self words.now title graph start labels }
+        ensures { doc_of result ≡ document_of self words.now title graph start labels }
     {
         Tables {
             words: *words,
@@ -253,7 +277,9 @@ impl Draft {
 
 // The number of a name among names, to which it is added where it is new and there is room.
 fn number(names: &mut Table<Name, 128>, name: Name) -> Option<u8>
-    ensures { (names.new, result) ≡ numbered names.old name }
+    ensures is { (names.new, result) ≡ numbered names.old name }
+    ensures few { length names.new ≤ 128 }
+    ensures within { IfSome result (λ k. k < 128) }
 {
     match find(names.as_slice(), name.as_bytes()) {
         Some(k) => Some(k as u8),

@@ -29,7 +29,7 @@ const TURNS: usize = 65;
 
 impl Mentions {
     // Another name of a list, which then goes on.
-    fn another(&mut self, reader: &mut Reader<'_>) -> Result<ControlFlow<()>, Refusal>
+    fn another(&mut self, reader: &mut Reader<'_, '_>) -> Result<ControlFlow<()>, Refusal>
         ensures { Reads (λ ws. another_at ws self.old) (λ f. (self.new, is_last f)) result reader.old reader.new }
     {
         let name = reader.name()?;
@@ -45,7 +45,11 @@ impl Mentions {
     }
 
     // `alt` and another name, or the symbol that ends the list.
-    fn turn(&mut self, reader: &mut Reader<'_>, close: Symbol) -> Result<ControlFlow<()>, Refusal>
+    fn turn(
+        &mut self,
+        reader: &mut Reader<'_, '_>,
+        close: Symbol,
+    ) -> Result<ControlFlow<()>, Refusal>
         ensures { Reads (λ ws. alt_turn ws close self.old) (λ f. (self.new, is_last f)) result reader.old reader.new }
     {
         let token = reader.next()?;
@@ -60,7 +64,7 @@ impl Mentions {
 }
 
 // The names behind the first, each after `alt`, up to the symbol that ends the list.
-fn alts(reader: &mut Reader<'_>, close: Symbol, first: Mention) -> Result<Mentions, Refusal>
+fn alts(reader: &mut Reader<'_, '_>, close: Symbol, first: Mention) -> Result<Mentions, Refusal>
     ensures { Reads (λ ws. repeat (alt_turn ws close) 8 (first ∷ [])) (λ ms. ms) result reader.old reader.new }
 {
     let mut list = Mentions::one(first);
@@ -74,7 +78,7 @@ fn alts(reader: &mut Reader<'_>, close: Symbol, first: Mention) -> Result<Mentio
 }
 
 // One to eight names joined by `alt`, and the symbol that ends the list.
-pub fn list(reader: &mut Reader<'_>, close: Symbol) -> Result<Mentions, Refusal>
+pub fn list(reader: &mut Reader<'_, '_>, close: Symbol) -> Result<Mentions, Refusal>
     ensures { Reads (λ ws. list_at ws close) (λ ms. ms) result reader.old reader.new }
 {
     let name = reader.name()?;
@@ -83,14 +87,14 @@ pub fn list(reader: &mut Reader<'_>, close: Symbol) -> Result<Mentions, Refusal>
 }
 
 // The number of a chart that is declared.
-fn chart_number(reader: &mut Reader<'_>, charts: &Table<Chart, 64>) -> Result<u8, Refusal>
+fn chart_number(reader: &mut Reader<'_, '_>, charts: &Table<Chart, 64>) -> Result<u8, Refusal>
     ensures { Reads (λ ws. old_name_at ws (names_of charts.now)) (λ k. (k, reader.new.place)) result reader.old reader.new }
 {
     Ok(old_name(reader, charts.as_slice())? as u8)
 }
 
 // `end`, or a chart's name and a list: (name)seq(list).
-fn rest(reader: &mut Reader<'_>, charts: &Table<Chart, 64>) -> Result<Rest, Refusal>
+fn rest(reader: &mut Reader<'_, '_>, charts: &Table<Chart, 64>) -> Result<Rest, Refusal>
     ensures { Reads (λ ws. rest_at ws (names_of charts.now)) rest_of result reader.old reader.new }
 {
     let token = reader.next()?;
@@ -112,7 +116,7 @@ impl<'a> Lines<'a> {
     // The rest of a label line behind its name, which stands at `at`.
     fn line(
         &mut self,
-        reader: &mut Reader<'_>,
+        reader: &mut Reader<'_, '_>,
         name: Name,
         at: usize,
     ) -> Result<ControlFlow<()>, Refusal>
@@ -133,7 +137,7 @@ impl<'a> Lines<'a> {
     }
 
     // A label line, or the word `endmsc` behind one at least.
-    fn turn(&mut self, reader: &mut Reader<'_>) -> Result<ControlFlow<()>, Refusal>
+    fn turn(&mut self, reader: &mut Reader<'_, '_>) -> Result<ControlFlow<()>, Refusal>
         ensures reads { Reads (λ ws. line_turn ws (names_of self.old.charts.now) self.old.lines) (λ f. (self.new.lines, is_last f)) result reader.old reader.new }
         ensures charts { self.new.charts ≡ self.old.charts }
     {
@@ -151,7 +155,10 @@ impl<'a> Lines<'a> {
 }
 
 // One to 64 label lines, and the word `endmsc`.
-pub fn lines(reader: &mut Reader<'_>, charts: &Table<Chart, 64>) -> Result<Table<Line, 64>, Refusal>
+pub fn lines(
+    reader: &mut Reader<'_, '_>,
+    charts: &Table<Chart, 64>,
+) -> Result<Table<Line, 64>, Refusal>
     ensures { Reads (λ ws. lines_at ws (names_of charts.now)) (λ ls. ls) result reader.old reader.new }
 {
     let mut lines = Lines::new(charts);

@@ -73,6 +73,7 @@ impl Mentions {
     pub fn push(&mut self, m: Mention) -> bool
         ensures done { result ≡ nat_lt (length self.old) 8 }
         ensures items { self.new ≡ (if result then self.old ++ m ∷ [] else self.old) }
+        ensures few { length self.new ≤ 8 }
     {
         if self.len < 8 {
             let at = self.len;

@@ -3,6 +3,7 @@ use Rattle.std.proofs.Common.{◌≡◌, Result, Ok, ℕ, true, List, Option, sy
 use Rattle.std.specs.Result.{is_ok}
 use Rattle.msc.specs.BuiltIn.{built_in}
 use Rattle.msc.specs.Meaning.{Meaning, meaning_of}
+use Rattle.msc.specs.Stored.{doc_of}
 use Rattle.msc.specs.declared.document.Document.{Document}
 use Rattle.order.specs.Charts.{played}
 use Rattle.judge.specs.Checks.{marked, broken}
@@ -34,7 +35,7 @@ said d r e = subst (Said (meant d)) (sym e) (verdict-says (meant d) (within d))
 pub ok_fair : (m : Meaning) (u : Unit {0}) → Ok u ≡ verdict m → is_fair m ≡ true
 ok_fair m u e = ap is_ok (sym e)
 
-pub same_meaning : (d d' : Document) → d'.tables ≡ d.tables → meant d' ≡ meant d
+pub same_meaning : (d d' : Document) → doc_of d'.tables ≡ doc_of d.tables → meant d' ≡ meant d
 unfolding meant
 same_meaning d d' e = ap meaning_of e
 
@@ -43,6 +44,6 @@ built_in_none : is_fair (meaning_of built_in) ≡ true
 unfolding verdict broken played marked repeat
 built_in_none = refl
 
-pub built_in_fair : (d : Document) → d.tables ≡ built_in → is_fair (meant d) ≡ true
+pub built_in_fair : (d : Document) → doc_of d.tables ≡ built_in → is_fair (meant d) ≡ true
 unfolding meant
 built_in_fair d e = ap (λ k. is_fair (meaning_of k)) e ∙ built_in_none

@@ -1,6 +1,7 @@
 // Accepted documents, and the judge that makes them.
 ghost use Rattle.std.specs.Prelude.{◌≡◌, true, None, MatchResult, slice_index_or};
 ghost use Rattle.msc.specs.BuiltIn.{built_in};
+ghost use Rattle.msc.specs.Stored.{doc_of};
 ghost use Rattle.order.specs.Meant.{meant};
 ghost use Rattle.judge.specs.Rules.{Fair, Breaks, AreLeaders};
 ghost use Rattle.judge.specs.Verdict.{is_fair, leaders_of};
@@ -21,7 +22,7 @@ pub struct Accepted {
 impl Accepted {
     // The built-in: one instance plays one action, and the procedure ends.
     pub fn built_in() -> Accepted
-        ensures { result.document.tables ≡ built_in }
+        ensures { doc_of result.document.tables ≡ built_in }
     {
         let document = Document::built_in();
         let leaders = leaders_of(&document);
@@ -48,7 +49,7 @@ impl Accepted {
 // Accepts a document exactly if it keeps every rule, and then the place holds it; else says which rule it breaks first and where.
 pub fn judge(document: &Document, place: &mut Accepted) -> Result<(), Refusal>
     ensures verdict { MatchResult result (λ _. Fair (meant document.now)) (λ e. Breaks (meant document.now) e) }
-    ensures kept { MatchResult result (λ _. (place.new.document.tables ≡ document.now.tables) × AreLeaders (meant document.now) place.new.leaders) (λ _. place.new ≡ place.old) }
+    ensures kept { MatchResult result (λ _. (doc_of place.new.document.tables ≡ doc_of document.now.tables) × AreLeaders (meant document.now) place.new.leaders) (λ _. place.new ≡ place.old) }
 {
     verdict(document)?;
     let copy = document.copied();

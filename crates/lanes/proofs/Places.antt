@@ -1,5 +1,5 @@
 -- What the place of a pair's first slot tells, and what lanes show of a put.
-use Rattle.std.proofs.Common.{◌≡◌, ℕ, ◌≤◌, true, false, cond, eqb, List, [], ◌∷◌, ◌++◌, length, get_or, Ok, Err, Some, None, Result, position, find, slice_get, sym, refl, ap, ◌∙◌, ⊎_elim, arith}
+use Rattle.std.proofs.Common.{◌≡◌, ℕ, ◌-◌, ◌≤◌, take, true, false, eqb, List, [], ◌∷◌, ◌++◌, length, get_or, Ok, Err, Some, None, Result, position, find, slice_get, sym, refl, ap, ◌∙◌, ⊎_elim, arith}
 use Rattle.std.specs.List.{remove, position_or_len}
 use Rattle.std.proofs.lemmas.Bool.{cases_Bool, eqb-true, eqb-false}
 use Rattle.std.proofs.lemmas.Grind.{common_steps}
@@ -8,19 +8,24 @@ use Rattle.std.proofs.lemmas.List.Quantifiers.{position-Some}
 use Rattle.std.proofs.lemmas.Option.{slice_get-get_or, slice_get_past}
 use Rattle.channel.specs.declared.Letter.{Letter}
 use Rattle.channel.specs.declared.Refusal.{Refusal}
-use Rattle.channel.specs.declared.Refusal.TheVariants.{Full}
 use Rattle.channel.specs.Waits.{is_pair, first_of, head_of, headless}
 use Rattle.channel.specs.Calls.{Put}
 use Rattle.channel.proofs.Places.{placed, not_placed}
 use Rattle.channel.proofs.Makes.{put_full, put_done}
+use Rattle.arrayvec.specs.ArrayVec.{ArrayVec, with_items}
+use Rattle.arrayvec.proofs.ArrayVecLemmas.{items-with_items}
 use Rattle.lanes.specs.declared.slot.Slot.{Slot}
 use Rattle.lanes.specs.declared.table.Lanes.{Lanes}
-use Rattle.lanes.specs.Lanes.{waits_of, room_of, Sound, place_in}
+use Rattle.lanes.specs.Lanes.{waits_of, room_of, Sound, place_in, push_of, after_push}
 use Rattle.lanes.specs.Slots.{is_of, queue_of}
-use Rattle.lanes.specs.Rows.{total-rows, queues_push, find-first, removed_first}
+use Rattle.lanes.specs.Rows.{total-rows, queues_push, find-first, removed_first, blank}
 
-abbrev blank : Slot
-blank = record { from = 0; to = 0; letter = record { label = 0; name = 0; place = 0; turns = [] } }
+-- slots that are moved down over the one at i, and without the last
+pub closed : (v w : ArrayVec Slot) (us vs : List Slot) (i : ℕ) → us ≡ v.items → length vs ≡ length us → take (length us - 1) vs ≡ remove us i
+    → w.items ≡ take (length (with_items v vs).items - 1) (with_items v vs).items → w.items ≡ remove v.items i
+closed v w us vs i eu len moved left =
+    let kept : (with_items v vs).items ≡ vs = items-with_items v vs (len ∙ ap length eu) in
+    left ∙ ap (λ l. take (length l - 1) l) kept ∙ ap (λ n. take (n - 1) vs) len ∙ moved ∙ ap (λ l. remove l i) eu
 
 module _ (l : Lanes) (from to : ℕ) where
   abbrev xs : List Slot
@@ -49,8 +54,8 @@ module _ (l : Lanes) (from to : ℕ) where
       h
 
   pub put_kept : (l' : Lanes) (letter : Letter) (r : Result (Unit {0}) Refusal) → is_pair from to ≡ true
-      → r ≡ cond (eqb (length xs) 64) (Err Full) (Ok tt)
-      → l'.slots.items ≡ cond (eqb (length xs) 64) xs (xs ++ record { from = from; to = to; letter = letter } ∷ [])
+      → r ≡ push_of xs
+      → l'.slots.items ≡ after_push xs (record { from = from; to = to; letter = letter })
       → Put Sound waits_of room_of l l' from to letter r
   put_kept l' letter r pair answer left =
       let n = total-rows xs l.pairs in

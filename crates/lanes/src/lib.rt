@@ -2,8 +2,10 @@
 // pair.
 #![tactic(auto)]
 
-ghost use Rattle.std.specs.Prelude.{◌≡◌, ℕ, [], position};
-ghost use Rattle.lanes.specs.Lanes.{waits_of, room_of, Sound, place_in};
+ghost use Rattle.std.specs.Prelude.{◌≡◌, ℕ, ◌-◌, ◌<◌, true, [], length, take, position};
+ghost use Rattle.std.specs.List.{remove};
+ghost use Rattle.channel.specs.Waits.{is_pair};
+ghost use Rattle.lanes.specs.Lanes.{waits_of, room_of, Sound, place_in, push_of, after_push};
 ghost use Rattle.lanes.specs.Slots.{is_of};
 ghost use Rattle.lanes.specs.Rows.{total-rows, queue_none};
 ghost use Rattle.std.proofs.Common.{arith, rules};
@@ -44,6 +46,29 @@ impl Lanes {
         }
         self.first(from, to).ok_or(Refusal::Empty)
     }
+
+    // Adds a slot behind the others, if a place is left.
+    fn push(&mut self, slot: Slot) -> Result<(), Refusal>
+        requires { is_pair slot.from slot.to ≡ true }
+        ensures answer { result ≡ push_of self.old.slots.items }
+        ensures slots { self.new.slots.items ≡ after_push self.old.slots.items slot }
+    {
+        self.slots.try_push(slot).map_err(|_| Refusal::Full)
+    }
+}
+
+// Moves the slots behind i down by one, over the one at i. Few are copied, since a rotation costs a
+// call, which many slots repay.
+fn close(slots: &mut [Slot], i: usize)
+    requires { i < length slots.old }
+    ensures len { length slots.new ≡ length slots.old }
+    ensures closed { take (length slots.old - 1) slots.new ≡ remove slots.old i }
+{
+    if slots.len() - i < 8 {
+        slots.copy_within(i + 1.., i);
+    } else {
+        slots[i..].rotate_left(1);
+    }
 }
 
 impl Channel for Lanes {
@@ -78,13 +103,15 @@ impl Channel for Lanes {
         if !is_pair(from, to) {
             return Err(Refusal::NotAPair);
         }
-        let slot = Slot { from, to, letter };
-        self.slots.try_push(slot).map_err(|_| Refusal::Full)
+        self.push(Slot { from, to, letter })
     }
 
     fn take(&mut self, from: u8, to: u8) -> Result<Letter, Refusal> {
         let i = self.place(from, to)?;
-        Ok(self.slots.remove(i).letter)
+        let letter = self.slots[i].letter;
+        close(self.slots.as_mut_slice(), i);
+        self.slots.pop();
+        Ok(letter)
     }
 }
 

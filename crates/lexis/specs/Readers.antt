@@ -30,18 +30,19 @@ step_of f (Err e) after = bad e
 abbrev pub from : {A : Type 0} → (List (List ℕ) → ℕ → List ℕ → Step A) → Spot → Step A
 from f r = f r.words r.at r.rest
 
--- what a call reads: it comes to what the step f says (g of its answer), and leaves the reader there, under the same words
+-- what a call reads: it comes to what the step f says (g of its answer), and leaves the reader there, under the same words and in the same text
 pub record Reads {X A : Type 0} (f : List (List ℕ) → ℕ → List ℕ → Step A) (g : X → A) (result : Result X Refusal) (before after : Spot) : Type 0 where
   pub says : step_of g result after ≡ from f before
   pub words : after.words ≡ before.words
+  pub text : after.text ≡ before.text
 
 -- the same behind the separators, where a token begins
 abbrev pub begun : Spot → Spot
-begun r = let n = prefix_len separator r.rest in record { words = r.words; at = r.at + n; rest = drop n r.rest; place = r.at + n }
+begun r = let n = prefix_len separator r.rest in record r { at = r.at + n; rest = drop n r.rest; place = r.at + n }
 
 -- a reader behind the token that a step comes to; where there is none it stays
 abbrev pub moved : Step (Tok × ℕ) → Spot → Spot
-moved (got t p s) r = record { words = r.words; at = p; rest = s; place = r.place }
+moved (got t p s) r = record r { at = p; rest = s }
 moved (bad e) r = r
 
 -- a reader behind its next token, or, where none begins, at the byte at fault

@@ -32,7 +32,7 @@ impl<'a> Token<'a> {
     }
 }
 
-impl<'a> Reader<'a> {
+impl<'a, 'w> Reader<'a, 'w> {
     // A name; its place is the reader's.
     pub fn name(&mut self) -> Result<Name, Refusal>
         ensures reads { Reads name_at (λ n. (n, self.new.place)) result self.old self.new }

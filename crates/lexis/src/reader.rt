@@ -18,30 +18,31 @@ use std::marker::Model;
 // A word has at most so many bytes.
 pub const LONGEST: usize = 16;
 
-// A clause sees the words in force, where it stands, the bytes that are left, and the place of the token read last.
+// A clause sees the words in force, the text, where it stands, the bytes that are left, and the place of the token read last.
+// Tokens are parts of the text and may outlive the words.
 #[derive(Drop)]
-pub struct Reader<'a> {
-    words: &'a Words,
+pub struct Reader<'a, 'w> {
+    words: &'w Words,
     text: &'a [u8],
     at: usize,
     place: usize,
 }
 
-impl<'a> Model for Reader<'a> {
+impl<'a, 'w> Model for Reader<'a, 'w> {
     ghost use Rattle.std.specs.Prelude.{◌≤◌, length, drop};
     ghost use Rattle.lexis.specs.Spots.{Spot};
 
     ghost Value = { Spot };
 
-    ghost view = { λ r. record { words = r.words.now; at = r.at; rest = drop r.at r.text.now; place = r.place } };
+    ghost view = { λ r. record { words = r.words.now; text = r.text.now; at = r.at; rest = drop r.at r.text.now; place = r.place } };
 
     ghost invariant = { λ r. r.at ≤ length r.text.now };
 }
 
-impl<'a> Reader<'a> {
+impl<'a, 'w> Reader<'a, 'w> {
     // A reader at the start of a text.
-    pub fn new(text: &'a [u8], words: &'a Words) -> Reader<'a>
-        ensures { result ≡ record { words = words.now; at = 0; rest = text.now; place = 0 } }
+    pub fn new(text: &'a [u8], words: &'w Words) -> Reader<'a, 'w>
+        ensures { result ≡ record { words = words.now; text = text.now; at = 0; rest = text.now; place = 0 } }
     {
         Reader {
             words,
@@ -52,7 +53,7 @@ impl<'a> Reader<'a> {
     }
 
     // Another reader at the same place. A derived clone may fail, and this cannot.
-    pub fn copied(&self) -> Reader<'a>
+    pub fn copied(&self) -> Reader<'a, 'w>
         ensures { result ≡ self.now }
     {
         Reader {
@@ -63,18 +64,29 @@ impl<'a> Reader<'a> {
         }
     }
 
+    // The whole text; what is left of it begins at the next byte.
+    pub fn text(&self) -> &'a [u8]
+        ensures is { result.now ≡ self.now.text }
+        ensures rest { drop self.now.at result.now ≡ self.now.rest }
+        ensures within { self.now.at ≤ length result.now }
+    {
+        self.text
+    }
+
     // The place of the next byte.
     pub fn at(&self) -> usize
         ensures { result ≡ self.now.at }
     {
-        self.at
+        let Reader { at, .. } = self;
+        *at
     }
 
     // The first byte of the token that was read last.
     pub fn place(&self) -> usize
         ensures { result ≡ self.now.place }
     {
-        self.place
+        let Reader { place, .. } = self;
+        *place
     }
 
     // The bytes that are left.

@@ -10,7 +10,7 @@ found_here : (k : ℕ) (b t : Bool) (o : Option ℕ) → is_some o ≡ t → is_
 found_here k true t o h = refl
 found_here k false t o h = h
 
-place-has : (k : ℕ) (xs : List (List ℕ)) (w : List ℕ) → is_some (place_from k xs w) ≡ has xs w
+pub place-has : (k : ℕ) (xs : List (List ℕ)) (w : List ℕ) → is_some (place_from k xs w) ≡ has xs w
 place-has k [] w = refl
 place-has k (x ∷ xs) w = found_here k (bytes_eq w x) (has xs w) (place_from (suc k) xs w) (place-has (suc k) xs w)
 

@@ -4,7 +4,7 @@ use Rattle.msc.specs.Doc.{Doc}
 use Rattle.msc.specs.Doc as doc
 use Rattle.msc.specs.declared.chart.Chart.{Chart}
 use Rattle.msc.specs.declared.event.Event.{Event}
-use Rattle.msc.specs.declared.tables.Tables.TheInside.{Inside}
+use Rattle.msc.specs.declared.tables.Tables.{Tables}
 
 -- the parts that end at the given places of the events, the first beginning at a
 abbrev pub cut : List Event → ℕ → List ℕ → List (List Event)
@@ -16,7 +16,7 @@ abbrev pub charts_from : List Event → ℕ → List Chart → List doc.Chart
 charts_from es a [] = []
 charts_from es a (c ∷ cs) = record { name = c.name; parts = cut es a c.ends } ∷ charts_from es (slice_index c.ends 7) cs
 
-abbrev pub doc_of : Inside → Doc
+abbrev pub doc_of : Tables → Doc
 doc_of t = record {
   words = t.words;
   title = t.title;

@@ -2,6 +2,7 @@
 ghost use Rattle.std.specs.Prelude.{◌≡◌, [], ◌∷◌, replicate};
 ghost use Rattle.msc.specs.declared.label.Body.TheVariants.{End};
 ghost use Rattle.msc.specs.BuiltIn.{built_in};
+ghost use Rattle.msc.specs.Stored.{doc_of};
 
 use crate::chart::Chart;
 use crate::document::Document;
@@ -32,7 +33,7 @@ fn chart() -> Chart
 }
 
 fn built_in_tables() -> Tables
-    ensures { result ≡ built_in }
+    ensures { doc_of result ≡ built_in }
 {
     let node = Label {
         name: Name::prefix(b"N"),
@@ -60,7 +61,7 @@ impl Document {
     // Document D: instance I plays chart C, an action a, at node N, and the procedure ends at label E of graph H.
     #[tactic(auto, unfolding(crate::specs::Sound::well_formed, crate::specs::Shortest::text_of))]
     pub fn built_in() -> Document
-        ensures { result.tables ≡ built_in }
+        ensures { doc_of result.tables ≡ built_in }
     {
         Document {
             tables: built_in_tables(),

@@ -1,42 +1,38 @@
 // What a document answers: its meaning, by numbers.
 ghost use Rattle.std.specs.Prelude.{◌≡◌, ◌-◌, take, drop};
 ghost use Rattle.msc.specs.Meaning.{meaning_of};
-ghost use Rattle.msc.specs.Stored.{ends_of, end_at, begin_at};
+ghost use Rattle.msc.specs.Stored.{doc_of, ends_of, end_at, begin_at};
 
 use crate::chart::Chart;
 use crate::document::Document;
 use crate::event::Event;
-use crate::label::{Body, Label};
+use crate::label::Body;
 
 impl Document {
     pub fn instances(&self) -> usize
-        ensures { result ≡ (meaning_of self.now.tables).instances }
+        ensures { result ≡ (meaning_of (doc_of self.now.tables)).instances }
     {
-        let tables = &self.tables;
-        tables.instances.len()
+        self.tables.instances.len()
     }
 
     #[tactic(auto, using(crate::proofs::Looks::length_charts))]
     pub fn charts(&self) -> usize
-        ensures { result ≡ (meaning_of self.now.tables).charts }
+        ensures { result ≡ (meaning_of (doc_of self.now.tables)).charts }
     {
-        let tables = &self.tables;
-        tables.charts.len()
+        self.tables.charts.len()
     }
 
     pub fn labels(&self) -> usize
-        ensures { result ≡ (meaning_of self.now.tables).labels }
+        ensures { result ≡ (meaning_of (doc_of self.now.tables)).labels }
     {
-        let tables = &self.tables;
-        tables.labels.len()
+        self.tables.labels.len()
     }
 
     // The chart of a node; none for an end label or what is no label.
     pub fn chart(&self, label: usize) -> Option<u8>
-        ensures { result ≡ (meaning_of self.now.tables).chart label }
+        ensures { result ≡ (meaning_of (doc_of self.now.tables)).chart label }
     {
-        let tables = &self.tables;
-        match tables.labels.as_slice().get(label)?.body {
+        match self.tables.labels.as_slice().get(label)?.body {
             Body::Node { chart, .. } => Some(chart),
             Body::End => None,
         }
@@ -44,31 +40,27 @@ impl Document {
 
     // The labels that may follow a node, or at 64 the start list.
     pub fn list(&self, label: usize) -> &[u8]
-        ensures { result.now ≡ (meaning_of self.now.tables).list label }
+        ensures { result.now ≡ (meaning_of (doc_of self.now.tables)).list label }
     {
-        let tables = &self.tables;
         if label == 64 {
-            return tables.start.as_slice();
+            return self.tables.start.as_slice();
         }
-        match tables.labels.as_slice().get(label) {
-            Some(
-                Label {
-                    body: Body::Node { next, .. },
-                    ..
-                },
-            ) => next.as_slice(),
-            _ => &[],
+        let Some(row) = self.tables.labels.as_slice().get(label) else {
+            return &[];
+        };
+        match &row.body {
+            Body::End => &[],
+            Body::Node { next, .. } => next.as_slice(),
         }
     }
 
     // The part of an instance in a chart.
     #[tactic(auto, using(crate::proofs::Looks::part_at))]
     pub fn part(&self, chart: usize, instance: usize) -> &[Event]
-        ensures { result.now ≡ (meaning_of self.now.tables).drawn chart instance }
+        ensures { result.now ≡ (meaning_of (doc_of self.now.tables)).drawn chart instance }
     {
-        let tables = &self.tables;
-        let charts = tables.charts.as_slice();
-        let events = tables.events.as_slice();
+        let charts = self.tables.charts.as_slice();
+        let events = self.tables.events.as_slice();
         between(
             events,
             begin_of(charts, chart, instance),
@@ -91,9 +83,9 @@ fn end_of(charts: &[Chart], chart: usize, instance: usize) -> usize
 fn begin_of(charts: &[Chart], chart: usize, instance: usize) -> usize
     ensures { result ≡ begin_at (ends_of charts.now) chart instance }
 {
-    match (chart, instance) {
+    match (instance, chart) {
         (0, 0) => 0,
-        (_, 0) => end_of(charts, chart - 1, 7),
+        (0, _) => end_of(charts, chart - 1, 7),
         _ => end_of(charts, chart, instance - 1),
     }
 }

@@ -1,5 +1,5 @@
 // A name or a reserved word, held by value: at most sixteen bytes.
-ghost use Rattle.std.specs.Prelude.{◌≡◌, []};
+ghost use Rattle.std.specs.Prelude.{◌≡◌, ◌≤◌, [], length};
 
 use crate::short::ShortList;
 
@@ -14,7 +14,8 @@ impl Name {
     }
 
     pub fn as_bytes(&self) -> &[u8]
-        ensures { result.now ≡ self.now }
+        ensures is { result.now ≡ self.now }
+        ensures few { length self.now ≤ 16 }
     {
         self.as_slice()
     }

@@ -1,5 +1,5 @@
 // A short list of bytes, held by value: at most N.
-ghost use Rattle.std.specs.Prelude.{◌≡◌, ◌<◌, [], ◌∷◌, ◌++◌, length, take, if◌then◌else◌, nat_lt, MatchOption};
+ghost use Rattle.std.specs.Prelude.{◌≡◌, ◌<◌, ◌≤◌, [], ◌∷◌, ◌++◌, length, take, if◌then◌else◌, nat_lt, IfSome, MatchOption};
 
 use std::marker::Model;
 
@@ -52,7 +52,8 @@ impl<const N: usize> ShortList<N> {
 
     // The list of these bytes, unless they are more than N.
     pub fn of(w: &[u8]) -> Option<Self>
-        ensures { MatchOption result (N < length w.now) (λ n. n ≡ w.now) }
+        ensures is { MatchOption result (N < length w.now) (λ n. n ≡ w.now) }
+        ensures few { IfSome result (λ _. length w.now ≤ N) }
     {
         if w.len() > N {
             None
@@ -62,7 +63,8 @@ impl<const N: usize> ShortList<N> {
     }
 
     pub fn as_slice(&self) -> &[u8]
-        ensures { result.now ≡ self.now }
+        ensures is { result.now ≡ self.now }
+        ensures few { length self.now ≤ N }
     {
         let all = &self.items[..];
         &all[0..self.len]
@@ -72,6 +74,7 @@ impl<const N: usize> ShortList<N> {
     pub fn push(&mut self, byte: u8) -> bool
         ensures done { result ≡ nat_lt (length self.old) N }
         ensures labels { self.new ≡ (if result then self.old ++ byte ∷ [] else self.old) }
+        ensures few { length self.new ≤ N }
     {
         if self.len < N {
             let at = self.len;

@@ -57,6 +57,7 @@ impl<T: Copy, const N: usize> Table<T, N> {
     pub fn push(&mut self, x: T) -> bool
         ensures done { result ≡ nat_lt (length self.old) N }
         ensures items { self.new ≡ (if result then self.old ++ x ∷ [] else self.old) }
+        ensures few { length self.new ≤ N }
     {
         if self.len < N {
             let at = self.len;

@@ -6,7 +6,6 @@ use crate::list::Alternatives;
 use crate::name::Name;
 use crate::table::Table;
 use crate::words::Words;
-use std::marker::Model;
 
 #[derive(Drop)]
 pub struct Tables {
@@ -20,14 +19,4 @@ pub struct Tables {
     pub graph: Name,
     pub start: Alternatives,
     pub labels: Table<Label, 64>,
-}
-
-impl Model for Tables {
-    ghost use Rattle.msc.specs.Doc.{Doc};
-
-    ghost Value = { Doc };
-
-    ghost use Rattle.msc.specs.Stored.{doc_of};
-
-    ghost view = { doc_of };
 }

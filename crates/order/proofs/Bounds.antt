@@ -12,6 +12,7 @@ use Rattle.msc.specs.Shortest.{text_of}
 use Rattle.msc.specs.Events.{out_to, in_from, picked}
 use Rattle.msc.specs.Listing.{Mem}
 use Rattle.msc.specs.Meaning.{Meaning, meaning_of, start, chart_of, list_of, no_chart, no_label}
+use Rattle.msc.specs.Stored.{doc_of}
 use Rattle.msc.specs.Sound.{many, names, partner, parts, chart, numbered, list, body, most, well_formed}
 use Rattle.msc.specs.Spelling.{every, is_name, is_vocabulary}
 use Rattle.msc.specs.declared.event.Event.{Event}
@@ -210,7 +211,7 @@ limits d h = within-limits d (facts d h)
 -- what a document means is within the limits
 pub within : (d : Document) → Limits (meant d)
 unfolding meant
-within d = limits d.tables d.sound
+within d = limits (doc_of d.tables) d.sound
 
 pub matched_rule : (d : Document) (c : ℕ) (r : Bool) → r ≡ is_matched ((meant d).drawn c) → Decides r (Matched (meant d) c)
 matched_rule d c r e = (λ h. is_matched_lem ((meant d).drawn c) ((within d).framed c) (sym e ∙ h), λ M. e ∙ matched_is ((meant d).drawn c) M)

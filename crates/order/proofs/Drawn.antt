@@ -83,4 +83,4 @@ module _ (parts : ℕ → List Event) where
       go (inr a) b = ap (picked (out_to q)) (w.few p a) ∙ sym (w.from p q a)
 
   pub matched_is : Pairs parts → is_matched parts ≡ true
-  matched_is M = all_from (sends_match parts) instances (λ p. all_from (pair_matches parts p) instances (λ q. (bytes_eq-Decides _ _).1 (picked_is (out_to q) (parts p) ∙ M p q ∙ sym (picked_is (in_from p) (parts q)))))
+  matched_is M = all_from (sends_match parts) instances (λ p _. all_from (pair_matches parts p) instances (λ q _. (bytes_eq-Decides _ _).1 (picked_is (out_to q) (parts p) ∙ M p q ∙ sym (picked_is (in_from p) (parts q)))))

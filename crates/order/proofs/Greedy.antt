@@ -201,7 +201,7 @@ module _ (drawn : ℕ → ℕ → List Event) (c : ℕ) where
   listable_is w M (L, W) = ⊎_elim over more (first_not (Before drawn (c ∷ [])) (Passed (played parts)) (passed? (played parts)) [] L W.order (λ x m. absurd m))
     where
       over : ((x : Occ) → Mem x L → Passed (played parts) x) → is_listable parts ≡ true
-      over h = all_from (is_played parts (played parts)) instances (λ i. le-leb _ _
+      over h = all_from (is_played parts (played parts)) instances (λ i _. le-leb _ _
           (⊎_elim (λ (l : get_or (played parts) i 0 < length (parts i)). absurd (let p = h (occ 0 (spot i (get_or (played parts) i 0))) (W.complete (occ 0 (spot i (get_or (played parts) i 0))) l) in let z : ⊥ = omega (arith, p.1) in z))
           (λ (l : length (parts i) ≤ get_or (played parts) i 0). l) (cases_lt (get_or (played parts) i 0) (length (parts i)))))
 

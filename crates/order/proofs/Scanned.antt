@@ -41,6 +41,7 @@ module _ (f : ℕ → Bool) where
 
   -- the lowest of the n numbers from k on that is found
   pub record Found (k n x : ℕ) : Type 0 where
+    pub from : k ≤ x
     pub to : x < k + n
     pub here : f x ≡ true
     pub ahead : (y : ℕ) → k ≤ y → y < x → f y ≡ false
@@ -50,8 +51,9 @@ module _ (f : ℕ → Bool) where
   find_lowest k (suc n) x h = go (f k) refl h (find_lowest (k + 1) n x)
     where
       go : (b : Bool) → f k ≡ b → cond b (Some k) (find f (range_with_len (k + 1) n)) ≡ Some x → (find f (range_with_len (k + 1) n) ≡ Some x → Found (k + 1) n x) → Found k (suc n) x
-      go true t h ih = let e : k ≡ x = cc in record { to = omega arith; here = ap f (sym e) ∙ t; ahead = λ y a b. absurd (let z : ⊥ = omega arith in z) }
+      go true t h ih = let e : k ≡ x = cc in record { from = omega arith; to = omega arith; here = ap f (sym e) ∙ t; ahead = λ y a b. absurd (let z : ⊥ = omega arith in z) }
       go false t h ih = let r = ih h in record {
+        from = omega (arith, r.from);
         to = omega (arith, r.to);
         here = r.here;
         ahead = λ y a b. ⊎_elim (λ (e : k ≡ y). ap f (sym e) ∙ t) (⊎_elim (λ (l : k < y). r.ahead y (omega arith) b) (λ (l : y < k). absurd (let z : ⊥ = omega arith in z))) (cases_order k y);
@@ -62,9 +64,9 @@ module _ (f : ℕ → Bool) where
   all_each (y ∷ xs) h x (inl e) = ap f e ∙ (and_parts (f y) (list_all f xs) h).0
   all_each (y ∷ xs) h x (inr m) = all_each xs (and_parts (f y) (list_all f xs) h).1 x m
 
-  pub all_from : (xs : List ℕ) → ((x : ℕ) → f x ≡ true) → list_all f xs ≡ true
+  pub all_from : (xs : List ℕ) → ((x : ℕ) → Mem x xs → f x ≡ true) → list_all f xs ≡ true
   all_from [] h = refl
-  all_from (y ∷ xs) h = rw h (all_from xs h)
+  all_from (y ∷ xs) h = rw (h y (inl refl)) (all_from xs (λ x m. h x (inr m)))
 
   pub kept_passes : (xs : List ℕ) (x : ℕ) → Mem x (filter f xs) → f x ≡ true
   kept_passes [] x m = absurd m

@@ -1,5 +1,6 @@
 -- What is known of those who lead once they are gathered.
 use Rattle.std.proofs.Common.{◌≡◌, ℕ, ◌<◌, Bool, true, false, cond, eqb, ◌⊎◌, List, [], ◌∷◌, sym, refl, ◌∙◌, inl, inr, ⊎_elim, arith}
+use Rattle.std.specs.List.{filter, fold}
 use Rattle.std.proofs.lemmas.Bool.{eqb-true, eqb-false}
 use Rattle.msc.specs.Listing.{Mem}
 use Rattle.msc.specs.declared.event.Event.{Event}
@@ -37,6 +38,16 @@ tally_on a (x ∷ xs) P t = tally_like (gathered (joined_by a x) xs) (λ j. (P j
 
 pub tally : (xs : List ℕ) → Tally (gathered Nobody xs) (λ j. Mem j xs)
 tally xs = tally_like (gathered Nobody xs) (λ j. ⊥ ⊎ Mem j xs) (λ j. Mem j xs) (λ j. ⊎_elim (λ z. absurd z) (λ h. h)) (λ j. inr) (tally_on Nobody xs (λ j. ⊥) (λ i z. z))
+
+-- a fold that joins where a test passes gathers those that pass
+pub gathered_where : (t : ℕ → Bool) (a : Leaders) (is : List ℕ) → fold (λ b i. cond (t i) (joined_by b i) b) a is ≡ gathered a (filter t is)
+gathered_where t a [] = refl
+gathered_where t a (i ∷ is) = go (t i) (gathered_where t (joined_by a i) is) (gathered_where t a is)
+  where
+    go : (b : Bool) → fold (λ b i. cond (t i) (joined_by b i) b) (joined_by a i) is ≡ gathered (joined_by a i) (filter t is) → fold (λ b i. cond (t i) (joined_by b i) b) a is ≡ gathered a (filter t is)
+        → fold (λ b i. cond (t i) (joined_by b i) b) (cond b (joined_by a i) a) is ≡ gathered a (cond b (i ∷ filter t is) (filter t is))
+    go true g h = g
+    go false g h = h
 
 module _ (parts : ℕ → List Event) where
   pub mem_starters : (i : ℕ) → i < 8 → starts (parts i) ≡ true → Mem i (starters parts)

@@ -10,21 +10,32 @@ use crate::drawing::Drawing;
 use crate::messages::{in_from, out_to};
 use msc::event::Event;
 
-// How many messages the first n events send to a receiver.
-// One function for this and the next over a closure would have to say in its contract what the closure answers, and is no plainer.
-fn sent(events: &[Event], n: usize, receiver: u8) -> usize
-    ensures { result ≡ length (flat_map (out_to receiver) (take n events.now)) }
+// The first events of a part.
+fn front(events: &[Event], n: usize) -> &[Event]
+    ensures { result.now ≡ take n events.now }
 {
-    let first = events.iter().take(n);
-    first.flat_map(|&e| out_to(e, receiver)).count()
+    events.get(..n).unwrap_or(events)
 }
 
-// How many messages the first n events receive from a sender.
-fn received(events: &[Event], n: usize, sender: u8) -> usize
-    ensures { result ≡ length (flat_map (in_from sender) (take n events.now)) }
+// How many messages go out to a receiver.
+// One function for this and the next over a closure would have to say in its contract what the closure answers, and is no plainer.
+fn sent(events: &[Event], receiver: u8) -> usize
+    ensures { result ≡ length (flat_map (out_to receiver) events.now) }
 {
-    let first = events.iter().take(n);
-    first.flat_map(|&e| in_from(e, sender)).count()
+    events.iter().fold(0, |n, e| match out_to(e, receiver) {
+        Some(_) => n + 1,
+        None => n,
+    })
+}
+
+// How many messages come in from a sender.
+fn received(events: &[Event], sender: u8) -> usize
+    ensures { result ≡ length (flat_map (in_from sender) events.now) }
+{
+    events.iter().fold(0, |n, e| match in_from(e, sender) {
+        Some(_) => n + 1,
+        None => n,
+    })
 }
 
 // How many events of an instance are done.
@@ -43,8 +54,8 @@ impl<'a> Drawing<'a> {
         let at = done_of(done, instance);
         match events.get(at) {
             Some(Event::In { name: _, from }) => {
-                let out = done_of(done, *from);
-                received(events, at, *from) < sent(self.part(*from), out, instance)
+                let sends = front(self.part(*from), done_of(done, *from));
+                received(front(events, at), *from) < sent(sends, instance)
             }
             Some(_) => true,
             None => false,

@@ -12,8 +12,8 @@ use msc::event::Event;
 fn agree(outs: &[Event], receiver: u8, ins: &[Event], sender: u8) -> bool
     ensures { result ≡ agrees outs.now receiver ins.now sender }
 {
-    let sent = outs.iter().flat_map(|&e| out_to(e, receiver));
-    let received = ins.iter().flat_map(|&e| in_from(e, sender));
+    let sent = outs.iter().flat_map(|e| out_to(e, receiver));
+    let received = ins.iter().flat_map(|e| in_from(e, sender));
     sent.eq(received)
 }
 

@@ -19,8 +19,12 @@ impl<'a> Drawing<'a> {
     pub fn leaders(&self, others: Leaders) -> Leaders
         ensures { result ≡ gathered others (starters (parts self.now)) }
     {
-        (0..8u8)
-            .filter(|&i| starts(self.part(i)))
-            .fold(others, |all, i| all.joined(i))
+        (0..8u8).fold(others, |all, i| {
+            if starts(self.part(i)) {
+                all.joined(i)
+            } else {
+                all
+            }
+        })
     }
 }

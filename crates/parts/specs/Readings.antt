@@ -19,8 +19,9 @@ turned result after = step_of (λ x. (after.draft, is_last x)) result after.read
 abbrev pub here : {A : Type 0} → (List (List ℕ) → Draft → ℕ → List ℕ → Step A) → Reading → Step A
 here f r = f r.reader.words r.draft r.reader.at r.reader.rest
 
--- words, closed parts and charts are as they were
+-- words, text, closed parts and charts are as they were
 pub record Keeps (old new : Reading) : Type 0 where
   pub words : new.reader.words ≡ old.reader.words
+  pub text : new.reader.text ≡ old.reader.text
   pub parts : new.draft.parts ≡ old.draft.parts
   pub charts : new.draft.charts ≡ old.draft.charts

@@ -51,7 +51,7 @@ impl Way {
     }
 }
 
-impl<'a> Reading<'a> {
+impl<'a, 'w> Reading<'a, 'w> {
     // The number of a message name, which is new or stood before.
     fn message(&mut self) -> Result<u8, Refusal>
         ensures says { drafted result self.new ≡ here message_at self.old }
@@ -78,6 +78,7 @@ impl<'a> Reading<'a> {
     fn partner(&mut self, own: usize) -> Result<u8, Refusal>
         ensures says { step_of (λ k. k) result self.new.reader ≡ here (λ ws d. partner_at ws d own) self.old }
         ensures words { self.new.reader.words ≡ self.old.reader.words }
+        ensures text { self.new.reader.text ≡ self.old.reader.text }
         ensures draft { self.new.draft ≡ self.old.draft }
     {
         let k = old_name(&mut self.reader, self.draft.instances())?;

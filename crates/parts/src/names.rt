@@ -9,7 +9,7 @@ use msc::name::Name;
 use msc::search::{Named, contains, find};
 
 // A name that no row has.
-pub fn new_name<T: Named>(reader: &mut Reader<'_>, rows: &[T]) -> Result<Name, Refusal>
+pub fn new_name<T: Named>(reader: &mut Reader<'_, '_>, rows: &[T]) -> Result<Name, Refusal>
     ensures { Reads (λ ws. new_name_at ws (map T.called rows.now)) (λ n. n) result reader.old reader.new }
 {
     let name = reader.name()?;
@@ -20,7 +20,7 @@ pub fn new_name<T: Named>(reader: &mut Reader<'_>, rows: &[T]) -> Result<Name, R
 }
 
 // The number of the row that has the name.
-pub fn old_name<T: Named>(reader: &mut Reader<'_>, rows: &[T]) -> Result<usize, Refusal>
+pub fn old_name<T: Named>(reader: &mut Reader<'_, '_>, rows: &[T]) -> Result<usize, Refusal>
     ensures reads { Reads (λ ws. old_name_at ws (map T.called rows.now)) (λ k. (k, reader.new.place)) result reader.old reader.new }
     ensures within { IfOk result (λ k. k < length rows.now) }
 {

@@ -3,7 +3,7 @@ use draft::draft::Draft;
 use lexis::reader::Reader;
 
 #[derive(Drop)]
-pub struct Reading<'a> {
-    pub reader: Reader<'a>,
+pub struct Reading<'a, 'w> {
+    pub reader: Reader<'a, 'w>,
     pub draft: Draft,
 }

@@ -45,7 +45,7 @@ unfolding read_of
 too_long ws text h = sym (cond-false (leb (length text) most) (finish ws (forms_at ws 0 text)) (Err TooLong) (lt-leb (length text) most h))
 
 -- a text that is not too long, and a reader at its start
-module _ (ws : List (List ℕ)) (text : List ℕ) (start : Spot) (short : length text ≤ most) (begins : start ≡ record { words = ws; at = 0; rest = text; place = 0 }) where
+module _ (ws : List (List ℕ)) (text : List ℕ) (start : Spot) (short : length text ≤ most) (begins : start ≡ record { words = ws; text = text; at = 0; rest = text; place = 0 }) where
   -- what the pieces come to, with labels looked up, is what reading the text means
   ended : (m : Step Read) → m ≡ pieces start.words start.at start.rest → finish ws m ≡ read_of ws text
   unfolding read_of
@@ -94,11 +94,8 @@ module _ (ws : List (List ℕ)) (text : List ℕ) (start : Spot) (short : length
             at_end rows h = ap rows_then h ∙ ap labels_then l ∙ read_all
 
 -- a call that was refused, handed on
-pub refused : {A : Type 0} (result meant : Result A Refusal) (e : Refusal) → IsErrAnd result (λ d. d ≡ e) → Err e ≡ meant → result ≡ meant
-refused result meant e is h = let r = err_from_is_err_and result is in r.1 ∙ ap Err r.2 ∙ h
-
-pub refused_as : {X A : Type 0} (f : X → A) (result : Result X Refusal) (meant : Result A Refusal) (e : Refusal) → IsErrAnd result (λ d. d ≡ e) → Err e ≡ meant → result_map_both f (λ e. e) result ≡ meant
-refused_as f result meant e is h = let r = err_from_is_err_and result is in ap (result_map_both f (λ e. e)) (r.1 ∙ ap Err r.2) ∙ h
+pub refused : {X A : Type 0} (f : X → A) (result : Result X Refusal) (meant : Result A Refusal) (e : Refusal) → IsErrAnd result (λ d. d ≡ e) → Err e ≡ meant → result_map_both f (λ e. e) result ≡ meant
+refused f result meant e is h = let r = err_from_is_err_and result is in ap (result_map_both f (λ e. e)) (r.1 ∙ ap Err r.2) ∙ h
 
 -- of a refusal, what is said of refusals
 pub by_err : {X : Type 0} (r : Result X Refusal) (e : Refusal) (P : X → Type 0) (Q : Refusal → Type 0) → IsErrAnd r (λ d. d ≡ e) → Q e → MatchResult r P Q

@@ -3,6 +3,7 @@ ghost use Rattle.std.specs.Prelude.{◌≡◌, ◌≤◌, true, length, IfErr, M
 ghost use Rattle.std.specs.Result.{result_map_both};
 ghost use Rattle.msc.specs.Doc.{Doc};
 ghost use Rattle.msc.specs.Sound.{well_formed, most};
+ghost use Rattle.msc.specs.Stored.{doc_of};
 ghost use Rattle.msc.specs.declared.document.Document.{Document};
 ghost use Rattle.lexis.specs.Refusals.{value_of};
 ghost use Rattle.lexis.specs.Readers.{Reads};
@@ -33,7 +34,7 @@ const MOST: usize = 32768;
 
 // mscdocument name ;
 #[tactic(auto, unfolding(crate::specs::Pieces::head_at))]
-fn head(reader: &mut Reader<'_>) -> Result<Name, Refusal>
+fn head(reader: &mut Reader<'_, '_>) -> Result<Name, Refusal>
     ensures { Reads head_at (λ n. n) result reader.old reader.new }
 {
     reader.keyword(Keyword::Mscdocument)?;
@@ -45,7 +46,7 @@ fn head(reader: &mut Reader<'_>) -> Result<Name, Refusal>
 // list ; label lines endmsc ; endmscdocument ; and the text's end. The lines go by the charts that are declared.
 #[tactic(auto, unfolding(crate::specs::Pieces::tail_at))]
 fn tail(
-    reader: &mut Reader<'_>,
+    reader: &mut Reader<'_, '_>,
     charts: &Table<Chart, 64>,
 ) -> Result<(Mentions, Table<Line, 64>), Refusal>
     ensures { Reads (λ ws. tail_at ws (names_of charts.now)) (λ g. g) result reader.old reader.new }
@@ -61,7 +62,7 @@ fn tail(
 
 // The tables of a text, under the reserved words in force. Labels are looked up once all else is read.
 fn tables(text: &[u8], words: &Words) -> Result<Tables, Refusal>
-    ensures { result ≡ read_of words.now text.now }
+    ensures { result_map_both doc_of (λ e. e) result ≡ read_of words.now text.now }
 {
     if text.len() > MOST {
         return Err(Refusal::TooLong);
@@ -81,8 +82,8 @@ fn tables(text: &[u8], words: &Words) -> Result<Tables, Refusal>
 
 // The document that a text is read as, under the reserved words in force, or why it is refused.
 pub fn read(text: &[u8], words: &Words) -> Result<Document, Refusal>
-    ensures reads { result_map_both (λ (d : Document). d.tables) (λ e. e) result ≡ read_of words.now text.now }
-    ensures exactly { MatchResult result (λ d. Writes text.now d.tables) (λ _. (d : Doc) → length text.now ≤ most → well_formed d ≡ true → d.words ≡ words.now → Writes text.now d → ⊥) }
+    ensures reads { result_map_both (λ (d : Document). doc_of d.tables) (λ e. e) result ≡ read_of words.now text.now }
+    ensures exactly { MatchResult result (λ d. Writes text.now (doc_of d.tables)) (λ _. (d : Doc) → length text.now ≤ most → well_formed d ≡ true → d.words ≡ words.now → Writes text.now d → ⊥) }
     ensures spot { IfErr result (λ e. value_of e ≤ length text.now) }
 {
     // the words are a vocabulary

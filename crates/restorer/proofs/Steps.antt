@@ -86,7 +86,7 @@ module _ {B : Type 0} (b : Ghosts B) (r : Restorer B) (from to : ℕ) where
       h
 
 -- the next stamp carries the one that is due and as many on as wait
-stamp_next : (d n : ℕ) → d < 4294967296 → n < 4294967296 → n ≡ (d + (n + (4294967296 - d)) % 4294967296) % 4294967296
+pub stamp_next : (d n : ℕ) → d < 4294967296 → n < 4294967296 → n ≡ (d + (n + (4294967296 - d)) % 4294967296) % 4294967296
 stamp_next d n hd hn = omega arith
 
 between_more : (d n : ℕ) → d < 4294967296 → n < 4294967296 → (n + (4294967296 - d)) % 4294967296 ≤ 1024

@@ -3,6 +3,7 @@
 #![tactic(auto)]
 
 ghost use Rattle.std.specs.Prelude.{◌≡◌, []};
+ghost use Rattle.bag.specs.Held.{put_of};
 ghost use Rattle.bag.specs.Calls.{Put, Take};
 ghost use Rattle.tray.specs.Tray.{letters_in, space_of, Sound, after_put, after_take};
 ghost use Rattle.std.proofs.Common.{rules, arith};
@@ -24,6 +25,14 @@ impl Tray {
         Tray {
             items: ArrayVec::new(),
         }
+    }
+
+    // Adds a letter behind the others, if a place is left.
+    fn push(&mut self, item: Stamped) -> Result<(), Refusal>
+        ensures answer { result ≡ put_of (letters_in self.old) 32 }
+        ensures items { letters_in self.new ≡ after_put (letters_in self.old) item }
+    {
+        self.items.try_push(item).map_err(|_| Refusal::Full)
     }
 }
 
@@ -57,7 +66,7 @@ impl Bag for Tray {
         ensures put { Sound self.old → Put Sound letters_in space_of self.old self.new item result }
         ensures exact { letters_in self.new ≡ after_put (letters_in self.old) item }
     {
-        self.items.try_push(item).map_err(|_| Refusal::Full)
+        self.push(item)
     }
 
     // The last letter fills the gap.
@@ -65,7 +74,11 @@ impl Bag for Tray {
         ensures take { Sound self.old → Take Sound letters_in space_of self.old self.new i result }
         ensures exact { letters_in self.new ≡ after_take (letters_in self.old) i }
     {
-        self.items.swap_pop(i as usize).ok_or(Refusal::Empty)
+        let item = self.show(i)?;
+        let last = self.items[self.items.len() - 1];
+        self.items[i as usize] = last;
+        self.items.pop();
+        Ok(item)
     }
 }
 

@@ -2,6 +2,7 @@
 // It writes words and symbols, with a space only where a word follows a word.
 ghost use Rattle.std.specs.Prelude.{◌≡◌, ◌≤◌, [], ◌∷◌, length};
 ghost use Rattle.msc.specs.Sound.{most};
+ghost use Rattle.msc.specs.Stored.{doc_of};
 ghost use Rattle.msc.specs.Tokens.{name, word as reserved, sign as symbol};
 ghost use Rattle.writing.specs.Pens.{blank, penned};
 
@@ -25,16 +26,17 @@ pub(crate) struct Pen<'a> {
 }
 
 impl<'a> Model for Pen<'a> {
+    ghost use Rattle.msc.specs.Stored.{doc_of};
     ghost use Rattle.writing.specs.Pens.{Page};
 
     ghost Value = { Page };
 
-    ghost view = { λ p. record { document = p.document.now.tables; bytes = p.page; after = p.after } };
+    ghost view = { λ p. record { document = doc_of p.document.now.tables; bytes = p.page; after = p.after } };
 }
 
 impl<'a> Pen<'a> {
     pub(crate) fn new(document: &'a Document) -> Pen<'a>
-        ensures { result ≡ blank document.now.tables }
+        ensures { result ≡ blank (doc_of document.now.tables) }
     {
         Pen {
             document,
@@ -45,7 +47,7 @@ impl<'a> Pen<'a> {
 
     // The tables of the document.
     pub(crate) fn tables(&self) -> &'a Tables
-        ensures { result.now ≡ self.now.document }
+        ensures { doc_of result.now ≡ self.now.document }
     {
         let document = self.document;
         &document.tables

@@ -1,6 +1,7 @@
 // Writes a document.
 ghost use Rattle.std.specs.Prelude.{◌≡◌, ℕ, ◌≤◌, List, length, Ok};
 ghost use Rattle.msc.specs.Shortest.{doc_tokens, text_of};
+ghost use Rattle.msc.specs.Stored.{doc_of};
 ghost use Rattle.forms.specs.Reading.{read_of};
 ghost use Rattle.forms.specs.Writes.{Writes};
 ghost use Rattle.writing.specs.Pens.{penned};
@@ -29,10 +30,10 @@ impl<'a> Pen<'a> {
 // The shortest text of a document at the front of the output, and its length; where the output is shorter,
 // the length that it needs, and the output as it was. The text reads back as the document, and no writing of it is shorter.
 pub fn write(document: &Document, out: &mut [u8]) -> Result<usize, Refusal>
-    ensures answer { result ≡ write_of document.now.tables out.old }
-    ensures output { out.new ≡ after_write document.now.tables out.old }
-    ensures back { read_of document.now.tables.words (text_of document.now.tables) ≡ Ok document.now.tables }
-    ensures shortest { (text : List ℕ) → Writes text document.now.tables → length (text_of document.now.tables) ≤ length text }
+    ensures answer { result ≡ write_of (doc_of document.now.tables) out.old }
+    ensures output { out.new ≡ after_write (doc_of document.now.tables) out.old }
+    ensures back { read_of (doc_of document.now.tables).words (text_of (doc_of document.now.tables)) ≡ Ok (doc_of document.now.tables) }
+    ensures shortest { (text : List ℕ) → Writes text (doc_of document.now.tables) → length (text_of (doc_of document.now.tables)) ≤ length text }
 {
     let mut pen = Pen::new(document);
     pen.document();

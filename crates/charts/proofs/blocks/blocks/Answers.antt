@@ -5,7 +5,7 @@ use Rattle.charts.proofs.blocks.blocks.Goals as goal
 
 pub loop-init : goal.loop-init
 unfolding blocks_in
-loop-init c = (refl, record { words = refl; charts = refl })
+loop-init c = (refl, record { words = refl; text = refl; charts = refl })
 
 pub returns-in_err-block_turn-clause-says : goal.returns-in_err-block_turn-clause-says
 returns-in_err-block_turn-clause-says c =
@@ -16,5 +16,5 @@ loop-preserved c =
     let k = c.block_turn.ensures.stays in
     let l = c.loop.invariant.1 in (
       goes_on block_turn_in _ (9 - c.loop.counter) _ _ _ _ c.loop.invariant.0 _ (omega arith) _ k.words _ _ (sym c.is_break.ensures ∙ c.if-is_break.false) _ _ c.in_ok-block_turn.ensures.says,
-      record { words = k.words ∙ l.words; charts = k.charts ∙ l.charts },
+      record { words = k.words ∙ l.words; text = k.text ∙ l.text; charts = k.charts ∙ l.charts },
     )

@@ -8,7 +8,7 @@ use Rattle.charts.proofs.Opened.{same_charts}
 use Rattle.charts.proofs.charts.charts.Goals as goal
 
 pub loop-init : goal.loop-init
-loop-init c = let r = c.args.reading.now in (same_charts r.reader.words r.draft r.reader.at r.reader.rest, refl)
+loop-init c = let r = c.args.reading.now in (same_charts r.reader.words r.draft r.reader.at r.reader.rest, refl, refl)
 
 pub returns-in_err-name-clause-says : goal.returns-in_err-name-clause-says
 returns-in_err-name-clause-says c = gives_up chart_turn_in _ (65 - c.loop.counter) (c.loop.reading.draft, []) _ _ _ c.loop.invariant.0 (64 - c.loop.counter) (omega arith) _ c.in_err-name.ensures.says _ _ _ c.from_residual.ensures.1
@@ -25,6 +25,7 @@ loop-preserved c =
       goes_on chart_turn_in _ (65 - c.loop.counter) (c.loop.reading.draft, []) _ _ _ c.loop.invariant.0 (65 - (c.loop.counter + 1)) (omega arith) _ c.chart_turn.ensures.words (r.draft, []) false refl _ _
           (ap (λ (f : ControlFlow (List ℕ) (Unit {0})). got (named r.draft f) r.reader.at r.reader.rest) (sym c.in_default.is) ∙ c.in_ok-name.ensures.says),
       c.chart_turn.ensures.words ∙ c.loop.invariant.1,
+      c.chart_turn.ensures.text ∙ c.loop.invariant.2,
     )
 
 pub returns-clause-says : goal.returns-clause-says

@@ -14,4 +14,5 @@ returns-in_err-sign c =
     record {
       says = rw (p.1, p.2, ← c.has_room_instance.ensures, c.if-not-has_room_instance.false, ← said, ← name.words, ← sign.says) refl;
       words = sign.words ∙ name.words;
+      text = sign.text ∙ name.text;
     }

@@ -12,6 +12,7 @@ returns-in_err-turn c =
     rw (p.1, p.2) (record {
       says = refuses (alt_turn l.reader.words c.args.close) (8 - l.counter) l.list _ _ _ l.invariant.says (7 - l.counter) (omega arith) _ turn.says;
       words = turn.words ∙ l.invariant.words;
+      text = turn.text ∙ l.invariant.text;
     })
 
 pub returns-then-is_break : goal.returns-then-is_break
@@ -21,6 +22,7 @@ returns-then-is_break c =
     record {
       says = ends (alt_turn l.reader.words c.args.close) (8 - l.counter) l.list _ _ _ l.invariant.says (7 - l.counter) (omega arith) _ _ (sym c.is_break.ensures ∙ c.if-is_break.true) _ _ turn.says;
       words = turn.words ∙ l.invariant.words;
+      text = turn.text ∙ l.invariant.text;
     }
 
 pub loop-preserved : goal.loop-preserved
@@ -30,6 +32,7 @@ loop-preserved c =
     record {
       says = rw turn.words (more (alt_turn l.reader.words c.args.close) (8 - l.counter) l.list _ _ _ l.invariant.says _ (omega arith) _ _ (sym c.is_break.ensures ∙ c.if-is_break.false) _ _ turn.says);
       words = turn.words ∙ l.invariant.words;
+      text = turn.text ∙ l.invariant.text;
     }
 
 pub returns : goal.returns
@@ -38,4 +41,5 @@ returns c =
     record {
       says = rw c.at.ensures (runs_out (alt_turn l.reader.words c.args.close) (8 - l.counter) l.list _ _ _ l.invariant.says (omega arith));
       words = l.invariant.words;
+      text = l.invariant.text;
     }

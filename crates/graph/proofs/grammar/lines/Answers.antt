@@ -13,6 +13,7 @@ returns-in_err-turn c =
     rw (p.1, p.2) (record {
       says = refuses (line_turn l.reader.words (names_of c.args.charts.now)) (65 - l.counter) l.lines.lines _ _ _ l.invariant.says (64 - l.counter) (omega arith) _ (rw l.invariant.charts at turn.says);
       words = turn.words ∙ l.invariant.words;
+      text = turn.text ∙ l.invariant.text;
     })
 
 pub returns-then-is_break : goal.returns-then-is_break
@@ -22,6 +23,7 @@ returns-then-is_break c =
     record {
       says = ends (line_turn l.reader.words (names_of c.args.charts.now)) (65 - l.counter) l.lines.lines _ _ _ l.invariant.says (64 - l.counter) (omega arith) _ _ (sym c.is_break.ensures ∙ c.if-is_break.true) _ _ (rw l.invariant.charts at turn.says);
       words = turn.words ∙ l.invariant.words;
+      text = turn.text ∙ l.invariant.text;
     }
 
 pub loop-preserved : goal.loop-preserved
@@ -31,6 +33,7 @@ loop-preserved c =
     record {
       says = rw turn.reads.words (more (line_turn l.reader.words (names_of c.args.charts.now)) (65 - l.counter) l.lines.lines _ _ _ l.invariant.says (65 - (l.counter + 1)) (omega arith) _ _ (sym c.is_break.ensures ∙ c.if-is_break.false) _ _ (rw l.invariant.charts at turn.reads.says));
       words = turn.reads.words ∙ l.invariant.words;
+      text = turn.reads.text ∙ l.invariant.text;
       charts = rw turn.charts l.invariant.charts;
     }
 
@@ -40,4 +43,5 @@ returns c =
     record {
       says = rw c.at.ensures (runs_out (line_turn l.reader.words (names_of c.args.charts.now)) (65 - l.counter) l.lines.lines _ _ _ l.invariant.says (omega arith));
       words = l.invariant.words;
+      text = l.invariant.text;
     }

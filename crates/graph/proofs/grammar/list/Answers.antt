@@ -7,4 +7,5 @@ returns c =
     record {
       says = rw (← name.says, ← name.words, ← c.place-at.ensures) c.alts.ensures.says;
       words = c.alts.ensures.words ∙ name.words;
+      text = c.alts.ensures.text ∙ name.text;
     }

@@ -12,6 +12,7 @@ returns-in_err-keyword c =
     rw (p.1, p.2) (record {
       says = rw (← token.says, ← c.is_word.ensures, c.if-is_word.false, ← c.is_sign.ensures, c.if-is_sign.true, ← token.words, ← chart.says, ← chart.words, ← close.says, ← close.words, ← seq.says) refl;
       words = seq.words ∙ close.words ∙ chart.words ∙ token.words;
+      text = seq.text ∙ close.text ∙ chart.text ∙ token.text;
     })
 
 pub returns-in_err-sign-2 : goal.returns-in_err-sign-2
@@ -25,6 +26,7 @@ returns-in_err-sign-2 c =
     rw (p.1, p.2) (record {
       says = rw (← token.says, ← c.is_word.ensures, c.if-is_word.false, ← c.is_sign.ensures, c.if-is_sign.true, ← token.words, ← chart.says, ← chart.words, ← close.says, ← close.words, ← seq.says, ← seq.words, ← opens.says) refl;
       words = opens.words ∙ seq.words ∙ close.words ∙ chart.words ∙ token.words;
+      text = opens.text ∙ seq.text ∙ close.text ∙ chart.text ∙ token.text;
     })
 
 pub returns-in_err-next : goal.returns-in_err-next
@@ -39,4 +41,5 @@ returns-in_err-next c =
     rw (p.1, p.2) (record {
       says = rw (← token.says, ← c.is_word.ensures, c.if-is_word.false, ← c.is_sign.ensures, c.if-is_sign.true, ← token.words, ← chart.says, ← chart.words, ← close.says, ← close.words, ← seq.says, ← seq.words, ← opens.says, ← opens.words, ← list.says) refl;
       words = list.words ∙ opens.words ∙ seq.words ∙ close.words ∙ chart.words ∙ token.words;
+      text = list.text ∙ opens.text ∙ seq.text ∙ close.text ∙ chart.text ∙ token.text;
     })

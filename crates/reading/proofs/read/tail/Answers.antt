@@ -11,6 +11,7 @@ returns-in_err-lines c =
     record {
       says = rw (p.1, p.2, ← list.says, ← list.words, ← c.in_err-lines.ensures.says) refl;
       words = c.in_err-lines.ensures.words ∙ list.words;
+      text = c.in_err-lines.ensures.text ∙ list.text;
     }
 
 pub returns-in_err-sign : goal.returns-in_err-sign
@@ -22,6 +23,7 @@ returns-in_err-sign c =
     record {
       says = rw (p.1, p.2, ← list.says, ← list.words, ← lines.says, ← lines.words, ← c.in_err-sign.ensures.reads.says) refl;
       words = c.in_err-sign.ensures.reads.words ∙ lines.words ∙ list.words;
+      text = c.in_err-sign.ensures.reads.text ∙ lines.text ∙ list.text;
     }
 
 pub returns-in_err-keyword : goal.returns-in_err-keyword
@@ -34,6 +36,7 @@ returns-in_err-keyword c =
     record {
       says = rw (p.1, p.2, ← list.says, ← list.words, ← lines.says, ← lines.words, ← semi.says, ← semi.words, ← c.in_err-keyword.ensures.reads.says) refl;
       words = c.in_err-keyword.ensures.reads.words ∙ semi.words ∙ lines.words ∙ list.words;
+      text = c.in_err-keyword.ensures.reads.text ∙ semi.text ∙ lines.text ∙ list.text;
     }
 
 pub returns-in_err-sign-2 : goal.returns-in_err-sign-2
@@ -47,6 +50,7 @@ returns-in_err-sign-2 c =
     record {
       says = rw (p.1, p.2, ← list.says, ← list.words, ← lines.says, ← lines.words, ← semi.says, ← semi.words, ← word.says, ← word.words, ← c.in_err-sign-2.ensures.reads.says) refl;
       words = c.in_err-sign-2.ensures.reads.words ∙ word.words ∙ semi.words ∙ lines.words ∙ list.words;
+      text = c.in_err-sign-2.ensures.reads.text ∙ word.text ∙ semi.text ∙ lines.text ∙ list.text;
     }
 
 pub returns-in_err-end : goal.returns-in_err-end
@@ -61,6 +65,7 @@ returns-in_err-end c =
     record {
       says = rw (p.1, p.2, ← list.says, ← list.words, ← lines.says, ← lines.words, ← semi.says, ← semi.words, ← word.says, ← word.words, ← semi2.says, ← semi2.words, ← c.in_err-end.ensures.reads.says) refl;
       words = c.in_err-end.ensures.reads.words ∙ semi2.words ∙ word.words ∙ semi.words ∙ lines.words ∙ list.words;
+      text = c.in_err-end.ensures.reads.text ∙ semi2.text ∙ word.text ∙ semi.text ∙ lines.text ∙ list.text;
     }
 
 pub returns : goal.returns
@@ -75,4 +80,5 @@ returns c =
     record {
       says = rw (← list.says, ← list.words, ← lines.says, ← lines.words, ← semi.says, ← semi.words, ← word.says, ← word.words, ← semi2.says, ← semi2.words, ← end.says) refl;
       words = end.words ∙ semi2.words ∙ word.words ∙ semi.words ∙ lines.words ∙ list.words;
+      text = end.text ∙ semi2.text ∙ word.text ∙ semi.text ∙ lines.text ∙ list.text;
     }

@@ -24,3 +24,9 @@ pub returns-else-fits-clause-done : goal.returns-else-fits-clause-done
 returns-else-fits-clause-done c =
     let d = c.self.inside in
     rw (← c.self.view_is) (c.push-fits.ensures.done ∙ ap (λ n. ltb n 8) (sym (length_cut d.events d.first d.ends)))
+
+pub returns-then-fits-clause-few : goal.returns-then-fits-clause-few
+returns-then-fits-clause-few c = let d = c.self.inside in omega (arith, c.push-fits.ensures.few, length_cut d.events d.first c.push-fits.new.self)
+
+pub returns-else-fits-clause-few : goal.returns-else-fits-clause-few
+returns-else-fits-clause-few c = let d = c.self.inside in omega (arith, c.push-fits.ensures.few, length_cut d.events d.first c.push-fits.new.self)

@@ -14,4 +14,4 @@ pub returns-in-Some-clause-moves : goal.returns-in-Some-clause-moves
 returns-in-Some-clause-moves c =
     let r = c.self.inside in
     let rest = drop r.at r.text.now in
-    rw (← c.self.view_is) (ap (λ s. record { words = r.words.now; at = r.at + 1; rest = s; place = r.place }) (sym (drop-drop 1 r.at r.text.now)) ∙ ap (λ o. moved (symbol_at o r.at (drop 1 rest)) (record { words = r.words.now; at = r.at; rest = rest; place = r.place })) (c.in-Some.ensures ∙ signs _ c.ranges.b.fits))
+    rw (← c.self.view_is) (ap (λ s. record { words = r.words.now; text = r.text.now; at = r.at + 1; rest = s; place = r.place }) (sym (drop-drop 1 r.at r.text.now)) ∙ ap (λ o. moved (symbol_at o r.at (drop 1 rest)) (record { words = r.words.now; text = r.text.now; at = r.at; rest = rest; place = r.place })) (c.in-Some.ensures ∙ signs _ c.ranges.b.fits))

@@ -1,6 +1,7 @@
 use Rattle.std.proofs.Common.{◌≤◌, [], length, get_or, take, ap, ◌∙◌, sym, subst, arith}
 use Rattle.std.proofs.lemmas.List.{take_all}
 use Rattle.msc.specs.Meaning.{no_chart}
+use Rattle.msc.specs.Stored.{doc_of}
 use Rattle.writing.specs.Pens.{Page, penned}
 use Rattle.writing.specs.Walks.{part_of, parts_of}
 use Rattle.writing.proofs.Forms.{few_parts, parts_more}
@@ -20,5 +21,5 @@ pub returns : goal.returns
 returns c =
     let d = c.args.self.now.document in
     let ps = (get_or d.charts c.args.chart no_chart).parts in
-    let few : length ps ≤ 8 = subst (λ (p : Page). length (get_or p.document.charts c.args.chart no_chart).parts ≤ 8) c.self.view_is (few_parts c.self.inside.document.now.tables c.self.inside.document.now.sound c.args.chart) in
+    let few : length ps ≤ 8 = subst (λ (p : Page). length (get_or p.document.charts c.args.chart no_chart).parts ≤ 8) c.self.view_is (few_parts (doc_of c.self.inside.document.now.tables) c.self.inside.document.now.sound c.args.chart) in
     c.loop-i.invariant ∙ ap (λ l. penned c.args.self.now (parts_of d 0 l)) (take_all c.loop-i.i ps (omega (arith, few, c.loop-i-test.false)))
